@@ -1,5 +1,5 @@
 -- The rules for cells, and what a plain row means.
-use Prim.Native.Nat.{ℕ, suc}
+use Prim.Native.Nat.{ℕ, _+_}
 use mathlib.Core.Bool.{Bool, true, false, cond, _&&_}
 use mathlib.Core.List.{List, [], _∷_, _++_}
 use lib.ListN.{length, take, drop, replicate}
@@ -10,7 +10,7 @@ use Rattle.array.specs.declared.plain.CellRow.{CellRow}
 -- shifts rise strictly, from `low` on, and stay below 512; coefficients are from 1 to 511
 abbrev pub rising : ℕ → List Term → Bool
 rising low [] = true
-rising low (t ∷ ts) = leb low (t .shift) && (ltb (t .shift) 512 && (leb 1 (t .coefficient) && (ltb (t .coefficient) 512 && rising (suc (t .shift)) ts)))
+rising low (t ∷ ts) = leb low (t .shift) && (ltb (t .shift) 512 && (leb 1 (t .coefficient) && (ltb (t .coefficient) 512 && rising (t .shift + 1) ts)))
 
 -- the rules for a cell, on its list of terms
 abbrev pub lawful : List Term → Bool
@@ -28,6 +28,7 @@ packed ts = record { count = length ts; terms = take 4 (ts ++ replicate 4 no-ter
 abbrev pub empty : CellRow
 empty = packed []
 
+-- every term is the one of an unused place
 abbrev pub unused : List Term → Bool
 unused [] = true
 unused (t ∷ ts) = eqb (t .shift) 0 && (eqb (t .coefficient) 0 && unused ts)

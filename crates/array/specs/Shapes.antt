@@ -16,7 +16,7 @@ abbrev pub shape-lawful : ℕ → ℕ → ℕ → Bool
 shape-lawful e rows columns =
     leb 1 rows && (leb rows 8 && (leb 1 columns && (leb columns 64 && leb (rows * columns * e) 16384)))
 
--- `rule`, or the refusal where it fails: the first that applies
+-- the refusal x where the rule fails, else what the rules after it say
 abbrev pub unless : Bool → Refusal → Option Refusal → Option Refusal
 unless rule x rest = cond rule rest (Some x)
 

@@ -16,10 +16,12 @@ const CELLS: usize = 512;
 
 // Judges a place of the array in a buffer of `cells` rows, and says where it stands there.
 fn locate(shape: &Shape, cells: usize, row: usize, column: usize) -> Result<usize, Refusal>
-    ensures { λ r. ⌜ Cases r
-        (λ k. (show-refusal (now (shape .entry) .rows) (now (shape .entry) .columns) cells row column ≡ None)
-            × (k ≡ row * now (shape .entry) .columns + column) × (k < cells))
-        (λ x. show-refusal (now (shape .entry) .rows) (now (shape .entry) .columns) cells row column ≡ Some x) ⌝ }
+    ensures { λ r.
+        let s = now (shape .entry) in
+        let answer = show-refusal (s .rows) (s .columns) cells row column in
+        ⌜ Cases r
+        (λ k. (answer ≡ None) × (k ≡ row * s .columns + column) × (k < cells))
+        (λ x. answer ≡ Some x) ⌝ }
 {
     if cells < CELLS {
         return Err(Refusal::Buffer);
@@ -31,15 +33,23 @@ fn locate(shape: &Shape, cells: usize, row: usize, column: usize) -> Result<usiz
 }
 
 // Puts a cell at a place of the array, for a field of `order` symbols.
-// Refuses with Buffer, Place, then Cell where a coefficient is `order` or more.
-pub fn place(shape: &Shape, order: u16, cells: &mut [CellRow], row: usize, column: usize, cell: &Cell) -> Result<(), Refusal>
-    ensures { λ r. ⌜ Cases r
-        (λ _. (place-refusal order (now (shape .entry) .rows) (now (shape .entry) .columns) (length (now (cells .entry))) row column
-                (take (now (cell .entry) .row .count) (now (cell .entry) .row .terms)) ≡ None)
-            × (now (cells .exit) ≡ set (now (cells .entry)) (row * now (shape .entry) .columns + column) (now (cell .entry) .row)))
-        (λ x. (place-refusal order (now (shape .entry) .rows) (now (shape .entry) .columns) (length (now (cells .entry))) row column
-                (take (now (cell .entry) .row .count) (now (cell .entry) .row .terms)) ≡ Some x)
-            × (now (cells .exit) ≡ now (cells .entry))) ⌝ }
+// Refuses with Buffer, Place, then Cell where a coefficient is `order` or more; the buffer is then as it was.
+pub fn place(
+    shape: &Shape,
+    order: u16,
+    cells: &mut [CellRow],
+    row: usize,
+    column: usize,
+    cell: &Cell,
+) -> Result<(), Refusal>
+    ensures { λ r.
+        let s = now (shape .entry) in
+        let was = now (cells .entry) in
+        let new = now (cell .entry) .row in
+        let answer = place-refusal order (s .rows) (s .columns) (length was) row column (take (new .count) (new .terms)) in
+        ⌜ Cases r
+        (λ _. (answer ≡ None) × (now (cells .exit) ≡ set was (row * s .columns + column) new))
+        (λ x. (answer ≡ Some x) × (now (cells .exit) ≡ was)) ⌝ }
 {
     let k = locate(shape, cells.len(), row, column)?;
     if !is_below(cell.terms(), order) {
@@ -49,13 +59,22 @@ pub fn place(shape: &Shape, order: u16, cells: &mut [CellRow], row: usize, colum
     Ok(())
 }
 
-// Fills the caller's cell with the one at a place of the array. Refuses with Buffer, then Place.
-pub fn show(shape: &Shape, cells: &[CellRow], row: usize, column: usize, cell: &mut Cell) -> Result<(), Refusal>
-    ensures { λ r. ⌜ Cases r
-        (λ _. (show-refusal (now (shape .entry) .rows) (now (shape .entry) .columns) (length (now (cells .entry))) row column ≡ None)
-            × (now (cell .exit) .row ≡ normal (cell-at (now (shape .entry) .columns) (now (cells .entry)) row column)))
-        (λ x. (show-refusal (now (shape .entry) .rows) (now (shape .entry) .columns) (length (now (cells .entry))) row column ≡ Some x)
-            × (now (cell .exit) .row ≡ now (cell .entry) .row)) ⌝ }
+// Fills the caller's cell with the one at a place of the array.
+// Refuses with Buffer, then Place; the cell is then as it was.
+pub fn show(
+    shape: &Shape,
+    cells: &[CellRow],
+    row: usize,
+    column: usize,
+    cell: &mut Cell,
+) -> Result<(), Refusal>
+    ensures { λ r.
+        let s = now (shape .entry) in
+        let held = now (cells .entry) in
+        let answer = show-refusal (s .rows) (s .columns) (length held) row column in
+        ⌜ Cases r
+        (λ _. (answer ≡ None) × (now (cell .exit) .row ≡ normal (cell-at (s .columns) held row column)))
+        (λ x. (answer ≡ Some x) × (now (cell .exit) .row ≡ now (cell .entry) .row)) ⌝ }
 {
     let k = locate(shape, cells.len(), row, column)?;
     *cell = Cell::of_row(cells[k]);

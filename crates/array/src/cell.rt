@@ -1,7 +1,6 @@
 // A cell: zero to four terms that keep the rules for cells, whoever holds it.
 ghost use mathlib.Core.Path.{_≡_};
 ghost use mathlib.Core.Bool.{true, false};
-ghost use mathlib.Core.List.{[]};
 ghost use Rattle.std.specs.Results.{Cases};
 ghost use Rattle.array.specs.Cells.{lawful, sound, normal, packed, empty};
 ghost use Rattle.refusal.specs.declared.Refusal.the-variants.{Cell as CellRule};
@@ -18,31 +17,44 @@ pub struct Cell {
     ghost keeps: { sound row ≡ true },
 }
 
-const NO_TERM: Term = Term { shift: 0, coefficient: 0 };
+const NO_TERM: Term = Term {
+    shift: 0,
+    coefficient: 0,
+};
 
 impl Cell {
     // The cell that has no terms.
     pub fn empty() -> Self
         ensures { λ r. ⌜ r .row ≡ empty ⌝ }
     {
-        Cell { row: CellRow { count: 0, terms: [NO_TERM; 4] } }
+        Cell {
+            row: CellRow {
+                count: 0,
+                terms: [NO_TERM; 4],
+            },
+        }
     }
 
-    // Makes this the cell of a list of terms; refuses with Cell, and leaves it as it was, where the list breaks a rule for cells.
+    // Makes this the cell of a list of terms.
+    // Refuses with Cell where the list breaks a rule for cells; the cell is then as it was.
     pub fn fill(&mut self, terms: &[Term]) -> Result<(), Refusal>
-        ensures { λ r. ⌜ Cases r
-            (λ _. (lawful (now (terms .entry)) ≡ true) × (now (self .exit) .row ≡ packed (now (terms .entry))))
-            (λ x. (lawful (now (terms .entry)) ≡ false) × (x ≡ CellRule) × (now (self .exit) .row ≡ now (self .entry) .row)) ⌝ }
+        ensures { λ r.
+            let ts = now (terms .entry) in
+            ⌜ Cases r
+            (λ _. (lawful ts ≡ true) × (now (self .exit) .row ≡ packed ts))
+            (λ x. (lawful ts ≡ false) × (x ≡ CellRule) × (now (self .exit) .row ≡ now (self .entry) .row)) ⌝ }
     {
         if !is_lawful(terms) {
             return Err(Refusal::Cell);
         }
-        let mut row = CellRow { count: 0, terms: [NO_TERM; 4] };
-        for (k, term) in terms.iter().enumerate() {
-            row.terms[k] = *term;
-            row.count += 1;
-        }
-        self.row = row;
+        let mut places = [NO_TERM; 4];
+        places[..terms.len()].copy_from_slice(terms);
+        *self = Cell {
+            row: CellRow {
+                count: terms.len() as u8,
+                terms: places,
+            },
+        };
         Ok(())
     }
 
@@ -50,18 +62,24 @@ impl Cell {
     pub fn of_row(row: CellRow) -> Self
         ensures { λ r. ⌜ r .row ≡ normal row ⌝ }
     {
-        if is_sound(&row) { Cell { row } } else { Cell::empty() }
+        if is_sound(&row) {
+            Cell { row }
+        } else {
+            Cell::empty()
+        }
     }
 
+    // The row that a buffer holds for this cell.
     pub fn row(&self) -> CellRow
         ensures { λ r. ⌜ r ≡ now (self .entry) .row ⌝ }
     {
         self.row
     }
 
+    // The terms, in the order of their shifts.
     pub fn terms(&self) -> &[Term]
         ensures { λ r. ⌜ now r ≡ take (now (self .entry) .row .count) (now (self .entry) .row .terms) ⌝ }
     {
-        &self.row.terms[0..self.row.count as usize]
+        &self.row.terms[..self.row.count as usize]
     }
 }

@@ -1,15 +1,19 @@
 // The rules for cells, as tests.
 ghost use mathlib.Core.Path.{_≡_};
-ghost use Rattle.array.specs.Cells.{lawful, sound, unused, below};
+ghost use Rattle.array.specs.Cells.{lawful, rising, sound, unused, below};
 use super::plain::CellRow;
 use super::plain::Term;
 
 pub fn is_lawful(terms: &[Term]) -> bool
     ensures { λ r. ⌜ r ≡ lawful (now (terms .entry)) ⌝ }
 {
-    if terms.len() > 4 {
-        return false;
-    }
+    terms.len() <= 4 && is_rising(terms)
+}
+
+// Do shifts rise strictly, and is each number in its range?
+fn is_rising(terms: &[Term]) -> bool
+    ensures { λ r. ⌜ r ≡ rising 0 (now (terms .entry)) ⌝ }
+{
     let mut low: u16 = 0;
     for term in terms {
         if term.shift < low || term.shift > 511 || term.coefficient == 0 || term.coefficient > 511 {
@@ -27,7 +31,7 @@ pub fn is_sound(row: &CellRow) -> bool
         return false;
     }
     let count = row.count as usize;
-    is_lawful(&row.terms[0..count]) && is_unused(&row.terms[count..4])
+    is_lawful(&row.terms[..count]) && is_unused(&row.terms[count..])
 }
 
 fn is_unused(terms: &[Term]) -> bool

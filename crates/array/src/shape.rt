@@ -34,7 +34,11 @@ impl Shape {
         if rows < 1 || rows > 8 || columns < 1 || columns > 64 || rows * columns * size > 16384 {
             return Err(Refusal::Shape);
         }
-        Ok(Shape { size, rows, columns })
+        Ok(Shape {
+            size,
+            rows,
+            columns,
+        })
     }
 
     pub fn size(&self) -> usize

@@ -27,6 +27,7 @@ fn select(bit: u16, a: u16) -> u16
 }
 
 impl ShiftField {
+    // Refuses with Degree where the degree is not from 2 to 9.
     pub fn new(degree: u8) -> Result<Self, Refusal>
         ensures { λ r. ⌜ Cases r
             (λ f. (2 ≤ degree) × (degree ≤ 9) × (f .degree ≡ degree))
@@ -35,7 +36,15 @@ impl ShiftField {
         if degree < 2 || degree > 9 {
             return Err(Refusal::Degree);
         }
-        Ok(ShiftField { degree })
+        Ok(ShiftField::of_degree(degree))
+    }
+
+    pub(crate) fn of_degree(degree: u8) -> Self
+        requires low { ⌜ 2 ≤ degree ⌝ }
+        requires high { ⌜ degree ≤ 9 ⌝ }
+        ensures { λ f. ⌜ f .degree ≡ degree ⌝ }
+    {
+        ShiftField { degree }
     }
 
     // An operand: 0 where it is no symbol.

@@ -1,14 +1,25 @@
 // The table field: the shift field of degree 9, multiplied through tables of powers and logarithms.
 ghost use mathlib.Core.Path.{_≡_};
 ghost use Prim.Native.Nat.{_<_};
+ghost use Rattle.field.specs.Meaning.{Alike};
 ghost use Rattle.field.specs.Shift.{multiplied, raised, symbol, shift-field};
 use super::interface::Field;
 use super::interface::Symbol;
+use super::shift::ShiftField;
 use super::tables::logarithm_of;
 use super::tables::power_at;
 
 #[derive(Clone, Copy)]
 pub struct TableField;
+
+impl TableField {
+    // The same field, multiplied by shifts.
+    pub fn as_shift(&self) -> ShiftField
+        ensures { λ r. ⌜ Alike (shift-field 9) (shift-field (r .degree)) ⌝ }
+    {
+        ShiftField::of_degree(9)
+    }
+}
 
 const ORDER: u16 = 512;
 

@@ -1,6 +1,6 @@
 // The tables of the table field: powers and logarithms of x in the field of 512 symbols.
 ghost use mathlib.Core.Path.{_≡_};
-ghost use Prim.Native.Nat.{_<_};
+ghost use Prim.Native.Nat.{ℕ, _<_};
 ghost use Rattle.field.specs.Shift.{scaled};
 
 // x^k modulo x^9 + x^4 + 1, for k from 0 to 510.
@@ -55,6 +55,7 @@ const LOGARITHMS: [u16; 512] = [
     401, 373, 386, 381, 382, 160, 383, 83, 161, 105, 384, 202, 84, 247, 162, 450, 106, 400, 385,
 ];
 
+// x^k; so each power is x times the one before it.
 pub fn power_at(k: u16) -> u16
     requires { ⌜ k < 511 ⌝ }
     ensures { λ r. ⌜ r ≡ scaled 9 k 1 ⌝ }
@@ -62,9 +63,11 @@ pub fn power_at(k: u16) -> u16
     POWERS[k as usize]
 }
 
+// The one exponent below 511 whose power is `a`.
 pub fn logarithm_of(a: u16) -> u16
     requires { ⌜ (0 < a) × (a < 512) ⌝ }
-    ensures { λ r. ⌜ (r < 511) × (scaled 9 r 1 ≡ a) ⌝ }
+    ensures is { λ r. ⌜ (r < 511) × (scaled 9 r 1 ≡ a) ⌝ }
+    ensures only { λ r. ⌜ ((k : ℕ) → k < 511 → scaled 9 k 1 ≡ a → k ≡ r) ⌝ }
 {
     LOGARITHMS[a as usize]
 }

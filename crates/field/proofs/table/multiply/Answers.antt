@@ -21,4 +21,4 @@ returns c =
     let w : (k ≡ i + j) ⊎ (k + 511 ≡ i + j) =
         elim (c .if-k-lt511 .came) [ then-k-lt511 w ↦ inl (omega (arith, w .power-at-is)) | else-k-lt511 w ↦ inr (omega (arith, w .power-at-is)) ] in
     c .power-at .ensures
-    ∙ product-by-exponents i j (c .args .a) (c .args .b) k (c .logarithm-of .ensures .1) (c .logarithm-of-2 .ensures .1) w
+    ∙ product-by-exponents i j (c .args .a) (c .args .b) k (c .logarithm-of .ensures .is .1) (c .logarithm-of-2 .ensures .is .1) w
