@@ -5,3 +5,9 @@ pub mod Geometric
 pub mod Transforms
 pub mod Convolution
 pub mod Generators
+pub mod Nulls
+pub mod Leads
+pub mod Counts
+pub mod Solves
+pub mod Gathers
+pub mod Unique

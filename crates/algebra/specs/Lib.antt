@@ -1,1 +1,3 @@
+pub mod Matrices
+pub mod Solutions
 pub mod Transforms

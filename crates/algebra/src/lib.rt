@@ -2,6 +2,15 @@
 // so each theorem stands on the contract of a function that does nothing else.
 ghost use Rattle.algebra.specs.Transforms.{Root-has-order, Transform-pair, Convolution, Passing-is-null, Generator-by-terms};
 
+mod matrices;
+
+pub use matrices::adding_keeps_null;
+pub use matrices::rank_counts;
+pub use matrices::reduced_form_is_unique;
+pub use matrices::reduced_form_solves;
+pub use matrices::scaling_keeps_null;
+pub use matrices::swap_keeps_null;
+
 pub fn root_has_order() -> u8
     ensures { λ _. ⌜ Root-has-order ⌝ }
 {

@@ -10,7 +10,8 @@ use Rattle.array.specs.Buffers.{cell-at}
 use Rattle.array.specs.declared.plain.CellRow.{CellRow}
 use Rattle.array.proofs.Cells-facts.{terms-normal}
 use Rattle.code.specs.Checks.{cell-sum}
-use Rattle.code.proofs.Sums.{row-more, total-below}
+use Rattle.algebra.proofs.Sums.{total-below}
+use Rattle.code.proofs.Sums.{row-more}
 use lib.Seq.{getD-set-same, getD-set-other}
 use Rattle.code.proofs.receiver.row_syndromes.Needs as need
 
@@ -37,7 +38,7 @@ loop-j-again g c = λ s h.
     let e = c .args .shape .now .size in
     let row = cell-at (c .args .shape .now .columns) (c .args .cells .now) (c .args .row) (c .loop-j .j) in
     let len = c .column-of-column .ensures .len in
-    row-more f e (c .loop-j .j)
+    row-more f (g .F·Field·met .lawful (c .args .f .now)) e (c .loop-j .j)
       (λ j. cell-sum f e (terms-of (cell-at (c .args .shape .now .columns) (c .args .cells .now) (c .args .row) j)) (λ k. getD (c .args .word .now) (j * e + k) 0) s)
       (c .terms .result .now) (terms-of row) (λ l. getD (c .column-of-column .result .now) l 0) (λ k. getD (c .args .word .now) (c .loop-j .j * e + k) 0)
       s (getD (c .loop-j .sums) s 0) (getD (c .add-cell .last .sums) s 0) (omega arith)
