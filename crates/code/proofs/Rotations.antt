@@ -49,38 +49,38 @@ module _ (sum product : ℕ → ℕ → ℕ) (n first m shift by : ℕ) (xs colu
     (lf : length front ≡ length (take (m - 0) xs))
     (lb : length back ≡ length (take (n - m) (drop m (front ++ postOf 0 (m - 0) xs))))
     (one : (s : ℕ) → s < length (take m (drop first column))
-      → getD front s 0 ≡ sum (getD (take (m - 0) xs) s 0) (product by (getD (take m (drop first column)) s 0)))
+    → getD front s 0 ≡ sum (getD (take (m - 0) xs) s 0) (product by (getD (take m (drop first column)) s 0)))
     (two : (s : ℕ) → s < length (take (first - 0) column)
-      → getD back s 0 ≡ sum (getD (take (n - m) (drop m (front ++ postOf 0 (m - 0) xs))) s 0) (product by (getD (take (first - 0) column) s 0)))
-    where
-  first-lt : first < n
-  first-lt = omega (arith, mod-lt shift some)
+    → getD back s 0 ≡ sum (getD (take (n - m) (drop m (front ++ postOf 0 (m - 0) xs))) s 0) (product by (getD (take (first - 0) column) s 0)))
+  where
+    first-lt : first < n
+    first-lt = omega (arith, mod-lt shift some)
 
-  m-le : m ≤ n
-  m-le = omega arith
+    m-le : m ≤ n
+    m-le = omega arith
 
-  front-length : length front ≡ m
-  front-length = lf ∙ search (needs, places)
+    front-length : length front ≡ m
+    front-length = lf ∙ search (needs, places)
 
-  back-length : length back ≡ n - m
-  back-length = lb ∙ search (needs, places, front-length)
+    back-length : length back ≡ n - m
+    back-length = lb ∙ search (needs, places, front-length)
 
-  pub term-added : (s : ℕ) → s < n
-    → getD (putMid m (n - m) (front ++ postOf 0 (m - 0) xs) back) s 0 ≡ sum (getD xs s 0) (product by (getD column ((shift + s) % n) 0))
-  term-added s h =
-      ⊎-elim
+    pub term-added : (s : ℕ) → s < n
+        → getD (putMid m (n - m) (front ++ postOf 0 (m - 0) xs) back) s 0 ≡ sum (getD xs s 0) (product by (getD column ((shift + s) % n) 0))
+    term-added s h =
+        ⊎-elim
         (λ (l : s < m).
-          let t : (shift + s) % n ≡ first + s = turned-front shift n s (omega arith) ∙ ap (λ (x : ℕ). x + s) (sym first-is) in
-          let u : s < length (take m (drop first column)) = search (needs, places, first-lt) in
-          let v : getD (take (m - 0) xs) s 0 ≡ getD xs s 0 = search (needs, places) in
-          let w : getD (take m (drop first column)) s 0 ≡ getD column (first + s) 0 = search (needs, places) in
-          front-read n m xs front back lx m-le front-length back-length s l ∙ one s u
-          ∙ ap₂ sum v (ap (product by) (w ∙ ap (λ (x : ℕ). getD column x 0) (sym t))))
+        let t : (shift + s) % n ≡ first + s = turned-front shift n s (omega arith) ∙ ap (λ (x : ℕ). x + s) (sym first-is) in
+        let u : s < length (take m (drop first column)) = search (needs, places, first-lt) in
+        let v : getD (take (m - 0) xs) s 0 ≡ getD xs s 0 = search (needs, places) in
+        let w : getD (take m (drop first column)) s 0 ≡ getD column (first + s) 0 = search (needs, places) in
+        front-read n m xs front back lx m-le front-length back-length s l ∙ one s u
+        ∙ ap₂ sum v (ap (product by) (w ∙ ap (λ (x : ℕ). getD column x 0) (sym t))))
         (λ (l : m ≤ s).
-          let t : (shift + s) % n ≡ s - m = turned-back shift n s (omega arith) h ∙ omega arith in
-          let u : s - m < length (take (first - 0) column) = search (needs, places, first-lt) in
-          let v : getD (take (n - m) (drop m (front ++ postOf 0 (m - 0) xs))) (s - m) 0 ≡ getD xs s 0 = search (needs, places, front-length) in
-          let w : getD (take (first - 0) column) (s - m) 0 ≡ getD column (s - m) 0 = search (needs, places) in
-          back-read n m xs front back lx m-le front-length back-length s l h ∙ two (s - m) u
-          ∙ ap₂ sum v (ap (product by) (w ∙ ap (λ (x : ℕ). getD column x 0) (sym t))))
+        let t : (shift + s) % n ≡ s - m = turned-back shift n s (omega arith) h ∙ omega arith in
+        let u : s - m < length (take (first - 0) column) = search (needs, places, first-lt) in
+        let v : getD (take (n - m) (drop m (front ++ postOf 0 (m - 0) xs))) (s - m) 0 ≡ getD xs s 0 = search (needs, places, front-length) in
+        let w : getD (take (first - 0) column) (s - m) 0 ≡ getD column (s - m) 0 = search (needs, places) in
+        back-read n m xs front back lx m-le front-length back-length s l h ∙ two (s - m) u
+        ∙ ap₂ sum v (ap (product by) (w ∙ ap (λ (x : ℕ). getD column x 0) (sym t))))
         (cases-lt s m)

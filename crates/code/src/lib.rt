@@ -1,5 +1,5 @@
 // Quasi-cyclic codes drawn by an array of circulants: generic over every field, over buffers that the caller lends.
 mod receiver;
 
-pub use receiver::check;
 pub use receiver::Verdict;
+pub use receiver::check;

@@ -19,7 +19,11 @@ use refusal::Refusal;
 pub enum Verdict {
     Passes,
     // the first check that fails, by row and then by its number in the row, with its syndrome
-    Fails { row: usize, s: usize, syndrome: Symbol },
+    Fails {
+        row: usize,
+        s: usize,
+        syndrome: Symbol,
+    },
 }
 
 // Adds a multiple of `xs` to `sums`.
@@ -29,7 +33,7 @@ fn add_scaled<F: Field>(f: &F, sums: &mut [Symbol], xs: &[Symbol], by: Symbol)
         let m = F·Field .meaning (now (f .entry)) in
         let x = now (xs .entry) in
         ⌜ ((s : ℕ) → s < length x →
-            getD (now (sums .exit)) s 0 ≡ m .sum (getD (now (sums .entry)) s 0) (m .product by (getD x s 0))) ⌝ }
+        getD (now (sums .exit)) s 0 ≡ m .sum (getD (now (sums .entry)) s 0) (m .product by (getD x s 0))) ⌝ }
 {
     for s in 0..xs.len() {
         sums[s] = f.sum(sums[s], f.product(xs[s], by));
@@ -44,13 +48,23 @@ fn add_term<F: Field>(f: &F, sums: &mut [Symbol], column: &[Symbol], term: Term)
         let m = F·Field .meaning (now (f .entry)) in
         let x = now (column .entry) in
         ⌜ ((s : ℕ) → s < length x →
-            getD (now (sums .exit)) s 0 ≡ m .sum (getD (now (sums .entry)) s 0)
-                (m .product (term .coefficient) (getD x ((term .shift + s) % length x) 0))) ⌝ }
+        getD (now (sums .exit)) s 0 ≡ m .sum (getD (now (sums .entry)) s 0)
+        (m .product (term .coefficient) (getD x ((term .shift + s) % length x) 0))) ⌝ }
 {
     let size = column.len();
     let first = term.shift as usize % size;
-    add_scaled(f, &mut sums[0..size - first], &column[first..size], term.coefficient);
-    add_scaled(f, &mut sums[size - first..size], &column[0..first], term.coefficient);
+    add_scaled(
+        f,
+        &mut sums[0..size - first],
+        &column[first..size],
+        term.coefficient,
+    );
+    add_scaled(
+        f,
+        &mut sums[size - first..size],
+        &column[0..first],
+        term.coefficient,
+    );
 }
 
 // Adds all terms of a cell.
@@ -62,8 +76,8 @@ fn add_cell<F: Field>(f: &F, sums: &mut [Symbol], column: &[Symbol], terms: &[Te
         let m = F·Field .meaning (now (f .entry)) in
         let x = now (column .entry) in
         ⌜ ((s : ℕ) → s < length x →
-            getD (now (sums .exit)) s 0
-            ≡ m .sum (getD (now (sums .entry)) s 0) (cell-sum m (length x) (now (terms .entry)) (λ l. getD x l 0) s)) ⌝ }
+        getD (now (sums .exit)) s 0
+        ≡ m .sum (getD (now (sums .entry)) s 0) (cell-sum m (length x) (now (terms .entry)) (λ l. getD x l 0) s)) ⌝ }
 {
     for term in terms {
         add_term(f, sums, column, *term);
@@ -102,7 +116,14 @@ fn column_of<'a>(shape: &Shape, word: &'a [Symbol], j: usize) -> &'a [Symbol]
 }
 
 // The syndromes of all parity checks of a row.
-fn row_syndromes<F: Field>(f: &F, shape: &Shape, cells: &[CellRow], word: &[Symbol], row: usize, sums: &mut [Symbol])
+fn row_syndromes<F: Field>(
+    f: &F,
+    shape: &Shape,
+    cells: &[CellRow],
+    word: &[Symbol],
+    row: usize,
+    sums: &mut [Symbol],
+)
     requires buffer { ⌜ 512 ≤ length (now cells) ⌝ }
     requires word_sized { ⌜ length (now word) ≡ now shape .columns * now shape .size ⌝ }
     requires row_within { ⌜ row < now shape .rows ⌝ }
@@ -110,7 +131,7 @@ fn row_syndromes<F: Field>(f: &F, shape: &Shape, cells: &[CellRow], word: &[Symb
     ensures { λ _.
         let e = now (shape .entry) .size in
         ⌜ ((s : ℕ) → s < e → getD (now (sums .exit)) s 0
-            ≡ syndrome (F·Field .meaning (now (f .entry))) e (now (shape .entry) .columns) (now (cells .entry)) (now (word .entry)) row s) ⌝ }
+        ≡ syndrome (F·Field .meaning (now (f .entry))) e (now (shape .entry) .columns) (now (cells .entry)) (now (word .entry)) row s) ⌝ }
 {
     for sum in sums.iter_mut() {
         *sum = 0;
@@ -126,7 +147,7 @@ fn first_nonzero(sums: &[Symbol]) -> Option<usize>
     ensures { λ r. ⌜ BySome r
         ((k : ℕ) → k < length (now (sums .entry)) → getD (now (sums .entry)) k 0 ≡ 0)
         (λ s. (s < length (now (sums .entry))) × (getD (now (sums .entry)) s 0 ≡ 0 → ⊥)
-            × ((k : ℕ) → k < s → getD (now (sums .entry)) k 0 ≡ 0)) ⌝ }
+        × ((k : ℕ) → k < s → getD (now (sums .entry)) k 0 ≡ 0)) ⌝ }
 {
     for (s, sum) in sums.iter().enumerate() {
         if *sum != 0 {
@@ -157,7 +178,12 @@ fn judge(order: u16, shape: &Shape, cells: usize, word: &[Symbol]) -> Result<(),
 // Says of a word whether it passes every parity check of the array in the cell buffer, or which one fails first.
 // Refuses with Buffer where there are fewer than 512 cells, Length where the word has not columns x size symbols, then
 // Symbol where one of them is no symbol of the field.
-pub fn check<F: Field>(f: &F, shape: &Shape, cells: &[CellRow], word: &[Symbol]) -> Result<Verdict, Refusal>
+pub fn check<F: Field>(
+    f: &F,
+    shape: &Shape,
+    cells: &[CellRow],
+    word: &[Symbol],
+) -> Result<Verdict, Refusal>
     ensures { λ r. ⌜ Checked (F·Field .meaning (now (f .entry))) (now (shape .entry) .size) (now (shape .entry) .rows)
         (now (shape .entry) .columns) (now (cells .entry)) (now (word .entry)) r ⌝ }
 {
@@ -167,7 +193,11 @@ pub fn check<F: Field>(f: &F, shape: &Shape, cells: &[CellRow], word: &[Symbol])
         let sums = &mut space[0..shape.size()];
         row_syndromes(f, shape, cells, word, row, sums);
         if let Some(s) = first_nonzero(sums) {
-            return Ok(Verdict::Fails { row, s, syndrome: sums[s] });
+            return Ok(Verdict::Fails {
+                row,
+                s,
+                syndrome: sums[s],
+            });
         }
     }
     Ok(Verdict::Passes)

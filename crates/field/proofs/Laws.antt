@@ -23,7 +23,7 @@ symbol-outside r a h = cond-false (ltb a (2 ^ r)) a 0 (le-ltb a (2 ^ r) h)
 pub symbol-lt : (r a : ℕ) → symbol r a < 2 ^ r
 symbol-lt r a =
     ⊎-elim (λ (h : a < 2 ^ r). subst (λ (x : ℕ). x < 2 ^ r) (sym (symbol-inside r a h)) h)
-      (λ (h : 2 ^ r ≤ a). subst (λ (x : ℕ). x < 2 ^ r) (sym (symbol-outside r a h)) (pow-pos r)) (cases-lt a (2 ^ r))
+    (λ (h : 2 ^ r ≤ a). subst (λ (x : ℕ). x < 2 ^ r) (sym (symbol-outside r a h)) (pow-pos r)) (cases-lt a (2 ^ r))
 
 pub outside-is-zero : (r a : ℕ) → 2 ^ r ≤ a → symbol r a ≡ symbol r 0
 outside-is-zero r a h = symbol-outside r a h ∙ sym (symbol-inside r 0 (pow-pos r))
@@ -53,43 +53,43 @@ module _ (r : ℕ) (lo : 2 ≤ r) (hi : r ≤ 9) where
 
   pub shift-lawful : Lawful (shift-field r)
   shift-lawful = record {
-      order-low = powers.order-low r lo hi;
-      order-high = powers.order-high r lo hi;
-      generator-below = omega (arith, powers.order-low r lo hi);
-      sum-below = sum-in;
-      product-below = product-in;
-      inverse-below = λ a. powers.raised-lt r lo hi (symbol r a) (2 ^ r - 2) (symbol-lt r a);
-      sum-outside = λ a b h. ap (λ (x : ℕ). bitXor x (symbol r b)) (outside-is-zero r a h);
-      product-outside = λ a b h. ap (λ (x : ℕ). multiplied r x (symbol r b)) (outside-is-zero r a h);
-      inverse-outside = λ a h. ap (λ (x : ℕ). raised r x (2 ^ r - 2)) (symbol-outside r a h) ∙ powers.raised-zero r lo hi;
-      inverse-zero = ap (λ (x : ℕ). raised r x (2 ^ r - 2)) (symbol-inside r 0 (pow-pos r)) ∙ powers.raised-zero r lo hi;
-      sum-comm = λ a b. xor-comm (symbol r a) (symbol r b);
-      sum-assoc = λ a b c.
-          ap (λ (x : ℕ). bitXor x (symbol r c)) (symbol-inside r (bitXor (symbol r a) (symbol r b)) (sum-in a b))
-          ∙ xor-assoc (symbol r a) (symbol r b) (symbol r c)
-          ∙ ap (λ (x : ℕ). bitXor (symbol r a) x) (sym (symbol-inside r (bitXor (symbol r b) (symbol r c)) (sum-in b c)));
-      sum-zero = λ a h. ap (λ (x : ℕ). bitXor x (symbol r a)) (symbol-inside r 0 (pow-pos r)) ∙ symbol-inside r a h;
-      product-comm = λ a b. powers.product-comm r lo hi (symbol r a) (symbol r b) (symbol-lt r a) (symbol-lt r b);
-      product-assoc = λ a b c.
-          ap (λ (x : ℕ). multiplied r x (symbol r c)) (symbol-inside r (multiplied r (symbol r a) (symbol r b)) (product-in a b))
-          ∙ powers.product-assoc r lo hi (symbol r a) (symbol r b) (symbol r c) (symbol-lt r a) (symbol-lt r b) (symbol-lt r c)
-          ∙ ap (λ (x : ℕ). multiplied r (symbol r a) x) (sym (symbol-inside r (multiplied r (symbol r b) (symbol r c)) (product-in b c)));
-      product-one = λ a h.
-          ap₂ (multiplied r) (symbol-inside r 1 (omega (arith, powers.order-low r lo hi))) (symbol-inside r a h) ∙ product-one-left r a h;
-      product-sum = λ a b c.
-          ap (multiplied r (symbol r a)) (symbol-inside r (bitXor (symbol r b) (symbol r c)) (sum-in b c))
-          ∙ product-xor r (symbol r a) (symbol r b) (symbol r c)
-          ∙ ap₂ bitXor (sym (symbol-inside r (multiplied r (symbol r a) (symbol r b)) (product-in a b)))
-            (sym (symbol-inside r (multiplied r (symbol r a) (symbol r c)) (product-in a c)));
-      product-inverse = λ a l h.
-          ap₂ (multiplied r) (symbol-inside r a h)
-            (symbol-inside r (raised r (symbol r a) (2 ^ r - 2)) (powers.raised-lt r lo hi (symbol r a) (2 ^ r - 2) (symbol-lt r a))
-            ∙ ap (λ (x : ℕ). raised r x (2 ^ r - 2)) (symbol-inside r a h))
-          ∙ powers.product-inverse r lo hi a l h;
-      powers-nonzero = λ k. subst (λ (x : ℕ). 0 < x) (sym (power-is k)) (powers.power-nonzero r lo hi k);
-      powers-all = all-powers;
-      powers-once = λ i j hi' hj e. powers.powers-once r lo hi i j hi' hj (sym (power-is i) ∙ e ∙ power-is j)
-    }
+    order-low = powers.order-low r lo hi;
+    order-high = powers.order-high r lo hi;
+    generator-below = omega (arith, powers.order-low r lo hi);
+    sum-below = sum-in;
+    product-below = product-in;
+    inverse-below = λ a. powers.raised-lt r lo hi (symbol r a) (2 ^ r - 2) (symbol-lt r a);
+    sum-outside = λ a b h. ap (λ (x : ℕ). bitXor x (symbol r b)) (outside-is-zero r a h);
+    product-outside = λ a b h. ap (λ (x : ℕ). multiplied r x (symbol r b)) (outside-is-zero r a h);
+    inverse-outside = λ a h. ap (λ (x : ℕ). raised r x (2 ^ r - 2)) (symbol-outside r a h) ∙ powers.raised-zero r lo hi;
+    inverse-zero = ap (λ (x : ℕ). raised r x (2 ^ r - 2)) (symbol-inside r 0 (pow-pos r)) ∙ powers.raised-zero r lo hi;
+    sum-comm = λ a b. xor-comm (symbol r a) (symbol r b);
+    sum-assoc = λ a b c.
+        ap (λ (x : ℕ). bitXor x (symbol r c)) (symbol-inside r (bitXor (symbol r a) (symbol r b)) (sum-in a b))
+        ∙ xor-assoc (symbol r a) (symbol r b) (symbol r c)
+        ∙ ap (λ (x : ℕ). bitXor (symbol r a) x) (sym (symbol-inside r (bitXor (symbol r b) (symbol r c)) (sum-in b c)));
+    sum-zero = λ a h. ap (λ (x : ℕ). bitXor x (symbol r a)) (symbol-inside r 0 (pow-pos r)) ∙ symbol-inside r a h;
+    product-comm = λ a b. powers.product-comm r lo hi (symbol r a) (symbol r b) (symbol-lt r a) (symbol-lt r b);
+    product-assoc = λ a b c.
+        ap (λ (x : ℕ). multiplied r x (symbol r c)) (symbol-inside r (multiplied r (symbol r a) (symbol r b)) (product-in a b))
+        ∙ powers.product-assoc r lo hi (symbol r a) (symbol r b) (symbol r c) (symbol-lt r a) (symbol-lt r b) (symbol-lt r c)
+        ∙ ap (λ (x : ℕ). multiplied r (symbol r a) x) (sym (symbol-inside r (multiplied r (symbol r b) (symbol r c)) (product-in b c)));
+    product-one = λ a h.
+        ap₂ (multiplied r) (symbol-inside r 1 (omega (arith, powers.order-low r lo hi))) (symbol-inside r a h) ∙ product-one-left r a h;
+    product-sum = λ a b c.
+        ap (multiplied r (symbol r a)) (symbol-inside r (bitXor (symbol r b) (symbol r c)) (sum-in b c))
+        ∙ product-xor r (symbol r a) (symbol r b) (symbol r c)
+        ∙ ap₂ bitXor (sym (symbol-inside r (multiplied r (symbol r a) (symbol r b)) (product-in a b)))
+        (sym (symbol-inside r (multiplied r (symbol r a) (symbol r c)) (product-in a c)));
+    product-inverse = λ a l h.
+        ap₂ (multiplied r) (symbol-inside r a h)
+        (symbol-inside r (raised r (symbol r a) (2 ^ r - 2)) (powers.raised-lt r lo hi (symbol r a) (2 ^ r - 2) (symbol-lt r a))
+        ∙ ap (λ (x : ℕ). raised r x (2 ^ r - 2)) (symbol-inside r a h))
+        ∙ powers.product-inverse r lo hi a l h;
+    powers-nonzero = λ k. subst (λ (x : ℕ). 0 < x) (sym (power-is k)) (powers.power-nonzero r lo hi k);
+    powers-all = all-powers;
+    powers-once = λ i j hi' hj e. powers.powers-once r lo hi i j hi' hj (sym (power-is i) ∙ e ∙ power-is j);
+  }
 
   pub shift-binary : CharacteristicTwo (shift-field r)
   shift-binary = record { order-power = (r, refl); sum-self = λ a. xor-self (symbol r a) }

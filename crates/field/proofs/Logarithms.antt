@@ -84,7 +84,7 @@ doubled (p ∷ ps) c h (suc k) l =
     doubled ps (double 9 c) (and-parts (eqb p c) (doubles ps (double 9 c)) h .1) k (omega arith) ∙ scaled-double 9 k c
 
 undone : (ps ls : List ℕ) (n : ℕ) → undo ps ls n ≡ true → (a : ℕ) → 0 < a → a ≤ n
-  → (getD ls a 0 < 511) × (getD ps (getD ls a 0) 0 ≡ a)
+    → (getD ls a 0 < 511) × (getD ps (getD ls a 0) 0 ≡ a)
 unfolding undo
 undone ps ls zero h a lo hi = absurd (omega arith)
 undone ps ls (suc n) h a lo hi =
@@ -92,9 +92,9 @@ undone ps ls (suc n) h a lo hi =
     let t = and-parts (ltb l 511 && eqb (getD ps l 0) (suc n)) (undo ps ls n) h in
     let u = and-parts (ltb l 511) (eqb (getD ps l 0) (suc n)) (t .0) in
     ⊎-elim
-      (λ (e : a ≡ suc n). subst (λ (x : ℕ). (getD ls x 0 < 511) × (getD ps (getD ls x 0) 0 ≡ x)) (sym e)
-        (ltb-true l 511 (u .0), eqb-true (getD ps l 0) (suc n) (u .1)))
-      (λ (ne : a ≡ suc n → ⊥). undone ps ls n (t .1) a lo (omega arith)) (cases-eq a (suc n))
+    (λ (e : a ≡ suc n). subst (λ (x : ℕ). (getD ls x 0 < 511) × (getD ps (getD ls x 0) 0 ≡ x)) (sym e)
+    (ltb-true l 511 (u .0), eqb-true (getD ps l 0) (suc n) (u .1)))
+    (λ (ne : a ≡ suc n → ⊥). undone ps ls n (t .1) a lo (omega arith)) (cases-eq a (suc n))
 
 pub power-is : (k : ℕ) → k < 511 → getD powers k 0 ≡ scaled 9 k 1
 power-is k h = doubled powers 1 (tables .1) k h
@@ -107,11 +107,11 @@ logarithm-is a lo hi =
 -- sums and negatives of exponents, modulo 511
 
 pub product-by-exponents : (i j a b k : ℕ) → scaled 9 i 1 ≡ a → scaled 9 j 1 ≡ b → (k ≡ i + j) ⊎ (k + 511 ≡ i + j)
-  → scaled 9 k 1 ≡ multiplied 9 a b
+    → scaled 9 k 1 ≡ multiplied 9 a b
 product-by-exponents i j a b k ea eb w =
     ⊎-elim (λ (e : k ≡ i + j). ap (λ (n : ℕ). scaled 9 n 1) e)
-      (λ (e : k + 511 ≡ i + j).
-        ap (scaled 9 k) (sym (turn 9 (omega arith) (omega arith))) ∙ sym (scaled-add 9 k 511 1) ∙ ap (λ (n : ℕ). scaled 9 n 1) e) w
+    (λ (e : k + 511 ≡ i + j).
+    ap (scaled 9 k) (sym (turn 9 (omega arith) (omega arith))) ∙ sym (scaled-add 9 k 511 1) ∙ ap (λ (n : ℕ). scaled 9 n 1) e) w
     ∙ sym (product-powers 9 (omega arith) (omega arith) i j) ∙ ap₂ (multiplied 9) ea eb
 
 pub inverse-by-exponent : (k a n : ℕ) → scaled 9 k 1 ≡ a → k < 511 → (n + k ≡ 511) ⊎ ((n ≡ 0) × (k ≡ 0)) → scaled 9 n 1 ≡ raised 9 a 510
@@ -119,8 +119,8 @@ inverse-by-exponent k a n ea l w =
     let lo : 2 ≤ 9 = omega arith in
     let hi : 9 ≤ 9 = omega arith in
     ⊎-elim
-      (λ (e : n + k ≡ 511).
-        ap (scaled 9 n) (sym (turns 9 lo hi k)) ∙ sym (scaled-add 9 n (k * 511) 1)
-        ∙ ap (λ (m : ℕ). scaled 9 m 1) (omega arith) ∙ scaled-add 9 (510 * k) 511 1 ∙ ap (scaled 9 (510 * k)) (turn 9 lo hi))
-      (λ (e : (n ≡ 0) × (k ≡ 0)). ap (λ (m : ℕ). scaled 9 m 1) (omega arith)) w
+    (λ (e : n + k ≡ 511).
+    ap (scaled 9 n) (sym (turns 9 lo hi k)) ∙ sym (scaled-add 9 n (k * 511) 1)
+    ∙ ap (λ (m : ℕ). scaled 9 m 1) (omega arith) ∙ scaled-add 9 (510 * k) 511 1 ∙ ap (scaled 9 (510 * k)) (turn 9 lo hi))
+    (λ (e : (n ≡ 0) × (k ≡ 0)). ap (λ (m : ℕ). scaled 9 m 1) (omega arith)) w
     ∙ sym (raised-power 9 lo hi k 510) ∙ ap (λ (x : ℕ). raised 9 x 510) ea

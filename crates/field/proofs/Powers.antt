@@ -56,7 +56,7 @@ module _ (r : ℕ) (lo : 2 ≤ r) (hi : r ≤ 9) where
   pub power-nonzero : (k : ℕ) → 0 < scaled r k 1
   power-nonzero k = positive (scaled r k 1) (λ e.
       let z : scaled r (k * (2 ^ r - 2) + k) 1 ≡ 0 =
-          scaled-add r (k * (2 ^ r - 2)) k 1 ∙ ap (scaled r (k * (2 ^ r - 2))) e ∙ scaled-zero r (k * (2 ^ r - 2)) in
+      scaled-add r (k * (2 ^ r - 2)) k 1 ∙ ap (scaled r (k * (2 ^ r - 2))) e ∙ scaled-zero r (k * (2 ^ r - 2)) in
       omega (arith, power-undone k))
     where
       positive : (n : ℕ) → (n ≡ 0 → ⊥) → 0 < n
@@ -75,15 +75,15 @@ module _ (r : ℕ) (lo : 2 ≤ r) (hi : r ≤ 9) where
       let a : m + i ≡ 2 ^ r - 1 = omega arith in
       let b : m + j ≡ (j - i) + (2 ^ r - 1) = omega arith in
       first-turn (j - i) (omega arith) (omega arith)
-        (ap (scaled r (j - i)) (sym (turn r lo hi)) ∙ sym (scaled-add r (j - i) (2 ^ r - 1) 1)
-        ∙ ap (λ (n : ℕ). scaled r n 1) (sym b) ∙ scaled-add r m j 1 ∙ ap (scaled r m) (sym e)
-        ∙ sym (scaled-add r m i 1) ∙ ap (λ (n : ℕ). scaled r n 1) a ∙ turn r lo hi)
+      (ap (scaled r (j - i)) (sym (turn r lo hi)) ∙ sym (scaled-add r (j - i) (2 ^ r - 1) 1)
+      ∙ ap (λ (n : ℕ). scaled r n 1) (sym b) ∙ scaled-add r m j 1 ∙ ap (scaled r m) (sym e)
+      ∙ sym (scaled-add r m i 1) ∙ ap (λ (n : ℕ). scaled r n 1) a ∙ turn r lo hi)
 
   pub powers-once : (i j : ℕ) → i < 2 ^ r - 1 → j < 2 ^ r - 1 → scaled r i 1 ≡ scaled r j 1 → i ≡ j
   powers-once i j hi' hj e =
       ⊎-elim (λ (s : i ≡ j). s)
-        (λ o. ⊎-elim (λ (l : i < j). absurd (apart i j l hj e)) (λ (l : j < i). absurd (apart j i l hi' (sym e))) o)
-        (cases-order i j)
+      (λ o. ⊎-elim (λ (l : i < j). absurd (apart i j l hj e)) (λ (l : j < i). absurd (apart j i l hi' (sym e))) o)
+      (cases-order i j)
 
   pub product-comm : (a b : ℕ) → a < 2 ^ r → b < 2 ^ r → multiplied r a b ≡ multiplied r b a
   product-comm zero b ha hb = product-zero-left r b ∙ sym (product-zero-right r b)
@@ -96,14 +96,14 @@ module _ (r : ℕ) (lo : 2 ≤ r) (hi : r ≤ 9) where
       cc (product-powers (i .0) (j .0), product-powers (j .0) (i .0), add-comm (i .0) (j .0))
 
   pub product-assoc : (a b c : ℕ) → a < 2 ^ r → b < 2 ^ r → c < 2 ^ r
-    → multiplied r (multiplied r a b) c ≡ multiplied r a (multiplied r b c)
+      → multiplied r (multiplied r a b) c ≡ multiplied r a (multiplied r b c)
   product-assoc zero b c ha hb hc =
       ap (λ (x : ℕ). multiplied r x c) (product-zero-left r b) ∙ product-zero-left r c ∙ sym (product-zero-left r (multiplied r b c))
   product-assoc (suc a) b c ha hb hc =
       let i : (k : ℕ) × (k < 2 ^ r - 1) × (scaled r k 1 ≡ suc a) = reached r lo hi (suc a) (omega arith) ha in
       let ea : scaled r (i .0) 1 ≡ suc a = i .2 in
       let left : (x : ℕ) → x < 2 ^ r → multiplied r (suc a) x ≡ scaled r (i .0) x =
-          λ x h. ap (λ (y : ℕ). multiplied r y x) (sym ea) ∙ product-scaled r lo hi (i .0) 1 x one-lt ∙ ap (scaled r (i .0)) (product-one-left r x h) in
+      λ x h. ap (λ (y : ℕ). multiplied r y x) (sym ea) ∙ product-scaled r lo hi (i .0) 1 x one-lt ∙ ap (scaled r (i .0)) (product-one-left r x h) in
       ap (λ (y : ℕ). multiplied r y c) (left b hb) ∙ product-scaled r lo hi (i .0) b c hb
       ∙ sym (left (multiplied r b c) (product-lt r lo hi b c hb))
 

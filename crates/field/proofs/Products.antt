@@ -14,30 +14,30 @@ pub product-xor : (r a b c : ℕ) → multiplied r a (bitXor b c) ≡ bitXor (mu
 unfolding multiplied
 product-xor r a b c =
     xors-same r (λ i. pick (bitXor b c / 2 ^ i % 2) (scaled r i a))
-      (λ i. bitXor (pick (b / 2 ^ i % 2) (scaled r i a)) (pick (c / 2 ^ i % 2) (scaled r i a)))
-      (λ i l. ap (λ (x : ℕ). pick x (scaled r i a)) (digit-xor b c i)
-        ∙ pick-xor (b / 2 ^ i % 2) (c / 2 ^ i % 2) (scaled r i a) (digit-lt (b / 2 ^ i)) (digit-lt (c / 2 ^ i)))
+    (λ i. bitXor (pick (b / 2 ^ i % 2) (scaled r i a)) (pick (c / 2 ^ i % 2) (scaled r i a)))
+    (λ i l. ap (λ (x : ℕ). pick x (scaled r i a)) (digit-xor b c i)
+    ∙ pick-xor (b / 2 ^ i % 2) (c / 2 ^ i % 2) (scaled r i a) (digit-lt (b / 2 ^ i)) (digit-lt (c / 2 ^ i)))
     ∙ xors-xor r (λ i. pick (b / 2 ^ i % 2) (scaled r i a)) (λ i. pick (c / 2 ^ i % 2) (scaled r i a))
 
 pub product-zero-left : (r b : ℕ) → multiplied r 0 b ≡ 0
 unfolding multiplied
 product-zero-left r b =
     xors-same r (λ i. pick (b / 2 ^ i % 2) (scaled r i 0)) (λ i. 0)
-      (λ i l. ap (pick (b / 2 ^ i % 2)) (scaled-zero r i) ∙ pick-zero (b / 2 ^ i % 2))
+    (λ i l. ap (pick (b / 2 ^ i % 2)) (scaled-zero r i) ∙ pick-zero (b / 2 ^ i % 2))
     ∙ xors-zero r
 
 pub product-zero-right : (r a : ℕ) → multiplied r a 0 ≡ 0
 unfolding multiplied
 product-zero-right r a =
     xors-same r (λ i. pick (0 / 2 ^ i % 2) (scaled r i a)) (λ i. 0)
-      (λ i l. ap (λ (x : ℕ). pick (x % 2) (scaled r i a)) (zero-div (2 ^ i)))
+    (λ i l. ap (λ (x : ℕ). pick (x % 2) (scaled r i a)) (zero-div (2 ^ i)))
     ∙ xors-zero r
 
 pub product-one-left : (r b : ℕ) → b < 2 ^ r → multiplied r 1 b ≡ b
 unfolding multiplied
 product-one-left r b h =
     xors-same r (λ i. pick (b / 2 ^ i % 2) (scaled r i 1)) (λ i. pick (b / 2 ^ i % 2) (2 ^ i))
-      (λ i l. ap (pick (b / 2 ^ i % 2)) (scaled-one r i l))
+    (λ i l. ap (pick (b / 2 ^ i % 2)) (scaled-one r i l))
     ∙ xors-bits r b ∙ mod-eq-of-lt h
 
 -- the product by Horner's rule, over the lowest n bits of b
@@ -71,9 +71,9 @@ module _ (r : ℕ) (lo : 2 ≤ r) (hi : r ≤ 9) where
   unfolding multiplied
   product-double a b h =
       xors-same r (λ i. pick (b / 2 ^ i % 2) (scaled r i (double r a))) (λ i. double r (pick (b / 2 ^ i % 2) (scaled r i a)))
-        (λ i l. ap (pick (b / 2 ^ i % 2)) (scaled-double r i a) ∙ sym (double-pick r (b / 2 ^ i % 2) (scaled r i a)))
+      (λ i l. ap (pick (b / 2 ^ i % 2)) (scaled-double r i a) ∙ sym (double-pick r (b / 2 ^ i % 2) (scaled r i a)))
       ∙ sym (double-xors r lo hi r (λ i. pick (b / 2 ^ i % 2) (scaled r i a))
-          (λ i l. pick-lt (b / 2 ^ i % 2) (scaled r i a) (2 ^ r) (scaled-lt r lo hi i a h)))
+      (λ i l. pick-lt (b / 2 ^ i % 2) (scaled r i a) (2 ^ r) (scaled-lt r lo hi i a h)))
 
   pub product-scaled : (i a b : ℕ) → a < 2 ^ r → multiplied r (scaled r i a) b ≡ scaled r i (multiplied r a b)
   unfolding scaled
@@ -88,7 +88,7 @@ module _ (r : ℕ) (lo : 2 ≤ r) (hi : r ≤ 9) where
       let s : ℕ → ℕ = λ i. pick (b / 2 / 2 ^ i % 2) (scaled r i a) in
       ap (λ (x : ℕ). bitXor (double r x) (pick (b % 2) a)) (horner-is n a (b / 2) h)
       ∙ ap (λ (x : ℕ). bitXor x (pick (b % 2) a))
-        (double-xors r lo hi n s (λ i l. pick-lt (b / 2 / 2 ^ i % 2) (scaled r i a) (2 ^ r) (scaled-lt r lo hi i a h))
-        ∙ xors-same n (λ i. double r (s i)) (λ i. pick (b / 2 ^ suc i % 2) (scaled r (suc i) a)) (λ i l. shifted-bit r i a b))
+      (double-xors r lo hi n s (λ i l. pick-lt (b / 2 / 2 ^ i % 2) (scaled r i a) (2 ^ r) (scaled-lt r lo hi i a h))
+      ∙ xors-same n (λ i. double r (s i)) (λ i. pick (b / 2 ^ suc i % 2) (scaled r (suc i) a)) (λ i l. shifted-bit r i a b))
       ∙ ap (λ (x : ℕ). bitXor (xors n (λ i. pick (b / 2 ^ suc i % 2) (scaled r (suc i) a))) x) (first-bit r a b)
       ∙ sym (xors-first n (λ i. pick (b / 2 ^ i % 2) (scaled r i a)))

@@ -27,14 +27,14 @@ double-by-shift r a d s e h = cc
 
 -- one more bit of b, from the highest down: with bits i and above done, bit i - 1 is next
 pub horner-next : (r i a b p : ℕ) → 0 < i → i ≤ r → p ≡ horner r (r - i) a (b / 2 ^ i)
-  → bitXor (double r p) (pick (b / 2 ^ (i - 1) % 2) a) ≡ horner r (r - (i - 1)) a (b / 2 ^ (i - 1))
+    → bitXor (double r p) (pick (b / 2 ^ (i - 1) % 2) a) ≡ horner r (r - (i - 1)) a (b / 2 ^ (i - 1))
 unfolding horner
 horner-next r i a b p l h e =
     let k : r - (i - 1) ≡ suc (r - i) = omega arith in
     let o : i - 1 + 1 ≡ i = omega arith in
     let q : b / 2 ^ (i - 1) / 2 ^ 1 ≡ b / 2 ^ (i - 1 + 1) = shr-shr b (i - 1) 1 in
     ap (λ (x : ℕ). bitXor (double r x) (pick (b / 2 ^ (i - 1) % 2) a))
-      (e ∙ ap (λ (x : ℕ). horner r (r - i) a (b / 2 ^ x)) (sym o) ∙ ap (horner r (r - i) a) (sym q))
+    (e ∙ ap (λ (x : ℕ). horner r (r - i) a (b / 2 ^ x)) (sym o) ∙ ap (horner r (r - i) a) (sym q))
     ∙ ap (λ (x : ℕ). horner r x a (b / 2 ^ (i - 1))) (sym k)
 
 module _ (r : ℕ) (lo : 2 ≤ r) (hi : r ≤ 9) where
@@ -69,7 +69,7 @@ module _ (r : ℕ) (lo : 2 ≤ r) (hi : r ≤ 9) (a : ℕ) (h : a < 2 ^ r) where
       ap (λ (x : ℕ). multiplied r x x) e ∙ sym (raised-add r lo hi a (2 ^ (k - 1)) (2 ^ (k - 1)) h) ∙ ap (raised r a) m
 
   pub inverse-next : (k s p : ℕ) → 1 ≤ k → s ≡ raised r a (2 ^ (k + 1 - 1)) → p ≡ raised r a (2 ^ k - 2)
-    → multiplied r p s ≡ raised r a (2 ^ (k + 1) - 2)
+      → multiplied r p s ≡ raised r a (2 ^ (k + 1) - 2)
   inverse-next k s p l e d =
       let o : k + 1 ≡ suc k = add-one k in
       let o' : k + 1 - 1 ≡ k = omega arith in

@@ -32,8 +32,8 @@ among [] a = false
 among (c ∷ cs) a = elim (eqb c a) [ true ↦ true | false ↦ among cs a ]
 
 met : (r n c a : ℕ) (b : Bool) → (b ≡ true → c ≡ a)
-  → (among (walk r n (double r c)) a ≡ true → (k : ℕ) × (k < n) × (scaled r k (double r c) ≡ a))
-  → (elim b [ true ↦ true | false ↦ among (walk r n (double r c)) a ]) ≡ true → (k : ℕ) × (k < suc n) × (scaled r k c ≡ a)
+    → (among (walk r n (double r c)) a ≡ true → (k : ℕ) × (k < n) × (scaled r k (double r c) ≡ a))
+    → (elim b [ true ↦ true | false ↦ among (walk r n (double r c)) a ]) ≡ true → (k : ℕ) × (k < suc n) × (scaled r k c ≡ a)
 unfolding scaled
 met r n c a true here later h = (0, omega arith, here refl)
 met r n c a false here later h =

@@ -49,9 +49,9 @@ symbol r a = cond (ltb a (2 ^ r)) a 0
 -- the field; its generator is x, and the inverse of a is a^(q - 2)
 abbrev pub shift-field : ℕ → Meaning
 shift-field r = record {
-    q = 2 ^ r;
-    g = 2;
-    sum = λ a b. bitXor (symbol r a) (symbol r b);
-    product = λ a b. multiplied r (symbol r a) (symbol r b);
-    inverse = λ a. raised r (symbol r a) (2 ^ r - 2)
-  }
+  q = 2 ^ r;
+  g = 2;
+  sum = λ a b. bitXor (symbol r a) (symbol r b);
+  product = λ a b. multiplied r (symbol r a) (symbol r b);
+  inverse = λ a. raised r (symbol r a) (2 ^ r - 2);
+}

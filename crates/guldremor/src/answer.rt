@@ -60,7 +60,10 @@ pub impl fmt::Display for Answer as AnswerDisplay {
                 Ok(())
             }
             Answer::Verdict(Verdict::Passes) => write!(f, "passes"),
-            Answer::Verdict(Verdict::Fails { row, s, syndrome }) => write!(f, "fails {row} {s} {syndrome}"),
+            Answer::Verdict(Verdict::Fails { row, s, syndrome }) => write!(
+                f,
+                "fails {row} {s} {syndrome}"
+            ),
         }
     }
 }

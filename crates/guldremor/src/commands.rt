@@ -14,7 +14,11 @@ use field::ShiftField;
 use field::TableField;
 use std::str::SplitWhitespace;
 
-pub fn make<'a>(session: &mut Session, name: &'a str, words: SplitWhitespace<'a>) -> Result<Answer, Trouble<'a>> {
+pub fn make<'a>(
+    session: &mut Session,
+    name: &'a str,
+    words: SplitWhitespace<'a>,
+) -> Result<Answer, Trouble<'a>> {
     match name {
         "field" => choose_field(session, words),
         "new" => start_array(session, words),
@@ -26,7 +30,10 @@ pub fn make<'a>(session: &mut Session, name: &'a str, words: SplitWhitespace<'a>
 }
 
 // field shift DEGREE | field table
-fn choose_field<'a>(session: &mut Session, mut words: SplitWhitespace<'a>) -> Result<Answer, Trouble<'a>> {
+fn choose_field<'a>(
+    session: &mut Session,
+    mut words: SplitWhitespace<'a>,
+) -> Result<Answer, Trouble<'a>> {
     let field = match words.next() {
         Some("shift") => {
             let degree = next_number(&mut words)?;
@@ -44,7 +51,10 @@ fn choose_field<'a>(session: &mut Session, mut words: SplitWhitespace<'a>) -> Re
 }
 
 // new SIZE ROWS COLUMNS
-fn start_array<'a>(session: &mut Session, mut words: SplitWhitespace<'a>) -> Result<Answer, Trouble<'a>> {
+fn start_array<'a>(
+    session: &mut Session,
+    mut words: SplitWhitespace<'a>,
+) -> Result<Answer, Trouble<'a>> {
     let size = next_number(&mut words)?;
     let rows = next_number(&mut words)?;
     let columns = next_number(&mut words)?;
@@ -54,7 +64,10 @@ fn start_array<'a>(session: &mut Session, mut words: SplitWhitespace<'a>) -> Res
 }
 
 // place ROW COLUMN SHIFT:COEFFICIENT ..
-fn place_cell<'a>(session: &mut Session, mut words: SplitWhitespace<'a>) -> Result<Answer, Trouble<'a>> {
+fn place_cell<'a>(
+    session: &mut Session,
+    mut words: SplitWhitespace<'a>,
+) -> Result<Answer, Trouble<'a>> {
     let row = next_number(&mut words)?;
     let column = next_number(&mut words)?;
     let mut terms = Vec::new(session.heap());

@@ -15,7 +15,12 @@ use std::io::BufReader;
 use std::io::ErrorKind;
 
 // Makes one line of the script and prints its answer; false where the line is no command.
-fn make_line(rt: &LibcRuntime, session: &mut Session, number: u64, line: &str) -> Result<bool, AnyError> {
+fn make_line(
+    rt: &LibcRuntime,
+    session: &mut Session,
+    number: u64,
+    line: &str,
+) -> Result<bool, AnyError> {
     let mut words = line.split_whitespace();
     let Some(name) = words.next() else {
         return Ok(true);

@@ -1,4 +1,13 @@
 // What a script has set up so far: a field, and an array drawn over it.
+ghost use mathlib.Core.Path.{_≡_};
+ghost use Rattle.std.specs.Of.Vec.{vec-items};
+ghost use Rattle.std.specs.Vec.{made};
+ghost use Rattle.std.specs.declared.option.Option.the-variants.{Some, None};
+ghost use Rattle.std.specs.declared.result.Result.the-variants.{Ok};
+ghost use Rattle.array.specs.Buffers.{cell-at};
+ghost use Rattle.array.specs.Cells.{normal};
+ghost use Rattle.code.specs.Checks.{Checked};
+ghost use Rattle.guldremor.specs.Sessions.{meaning-of};
 use super::answer::Trouble;
 use super::answer::TroubleFromAllocError;
 use super::answer::TroubleFromRefusal;
@@ -23,7 +32,9 @@ pub enum Chosen {
 }
 
 impl Chosen {
-    fn order(&self) -> u16 {
+    fn order(&self) -> u16
+        ensures { λ r. ⌜ r ≡ meaning-of (now (self .entry)) .q ⌝ }
+    {
         match self {
             Chosen::Shift(f) => f.order(),
             Chosen::Table(f) => f.order(),
@@ -57,19 +68,29 @@ impl Session {
         vec![in heap; blank; CELLS]
     }
 
-    pub fn heap(&self) -> Global {
+    pub fn heap(&self) -> Global
+        ensures { λ r. ⌜ r ≡ now (self .entry) .heap ⌝ }
+    {
         self.heap
     }
 
     // Takes a field, and forgets the array that was drawn over the one before.
-    pub fn choose(&mut self, field: Chosen) -> u16 {
+    pub fn choose(&mut self, field: Chosen) -> u16
+        ensures order { λ r. ⌜ r ≡ meaning-of field .q ⌝ }
+        ensures chosen { λ _. ⌜ (now (self .exit) .field ≡ Some field) × (now (self .exit) .shape ≡ None) ⌝ }
+    {
         self.field = Some(field);
         self.shape = None;
         field.order()
     }
 
     // An array of empty cells.
-    pub fn start(&mut self, size: usize, rows: usize, columns: usize) -> Result<(), Trouble<'static>> {
+    pub fn start(
+        &mut self,
+        size: usize,
+        rows: usize,
+        columns: usize,
+    ) -> Result<(), Trouble<'static>> {
         let Some(field) = self.field else {
             return Err(Trouble::Line(NO_FIELD));
         };
@@ -79,7 +100,14 @@ impl Session {
         Ok(())
     }
 
-    pub fn place(&mut self, row: usize, column: usize, terms: &[Term]) -> Result<(), Trouble<'static>> {
+    pub fn place(
+        &mut self,
+        row: usize,
+        column: usize,
+        terms: &[Term],
+    ) -> Result<(), Trouble<'static>>
+        ensures { λ _. ⌜ (now (self .exit) .field ≡ now (self .entry) .field) × (now (self .exit) .shape ≡ now (self .entry) .shape) ⌝ }
+    {
         let Some(field) = self.field else {
             return Err(Trouble::Line(NO_FIELD));
         };
@@ -88,11 +116,22 @@ impl Session {
         };
         let mut cell = Cell::empty();
         cell.fill(terms)?;
-        array::place(&shape, field.order(), self.cells.as_mut_slice(), row, column, &cell)?;
+        array::place(
+            &shape,
+            field.order(),
+            self.cells.as_mut_slice(),
+            row,
+            column,
+            &cell,
+        )?;
         Ok(())
     }
 
-    pub fn show(&self, row: usize, column: usize) -> Result<CellRow, Trouble<'static>> {
+    pub fn show(&self, row: usize, column: usize) -> Result<CellRow, Trouble<'static>>
+        ensures { λ r.
+            let d = now (self .entry) in
+            ⌜ made r (λ c. (s : Shape) × (d .shape ≡ Some s) × (c ≡ normal (cell-at (s .columns) (vec-items (d .cells)) row column))) ⌝ }
+    {
         let Some(shape) = self.shape else {
             return Err(Trouble::Line(NO_ARRAY));
         };
@@ -101,7 +140,12 @@ impl Session {
         Ok(cell.row())
     }
 
-    pub fn check(&self, word: &[Symbol]) -> Result<Verdict, Trouble<'static>> {
+    pub fn check(&self, word: &[Symbol]) -> Result<Verdict, Trouble<'static>>
+        ensures { λ r.
+            let d = now (self .entry) in
+            ⌜ made r (λ v. (f : Chosen) × (s : Shape) × (d .field ≡ Some f) × (d .shape ≡ Some s)
+            × Checked (meaning-of f) (s .size) (s .rows) (s .columns) (vec-items (d .cells)) (now (word .entry)) (Ok v)) ⌝ }
+    {
         let Some(field) = self.field else {
             return Err(Trouble::Line(NO_FIELD));
         };

@@ -37,7 +37,8 @@ impl Refusal {
             Refusal::Shape => "not 1 to 8 rows, 1 to 64 columns, rows x columns x size up to 16384",
             Refusal::Buffer => "a buffer is too short",
             Refusal::Place => "the array has no such place",
-            Refusal::Cell => "a cell has 0 to 4 terms, shifts 0 to 511 strictly rising, coefficients 1 to 511 below q",
+            Refusal::Cell =>
+                "a cell has 0 to 4 terms, shifts 0 to 511 strictly rising, coefficients 1 to 511 below q",
             Refusal::Length => "wrong number of symbols",
             Refusal::Symbol => "a symbol is q or more",
             Refusal::Degree => "the degree is not from 2 to 9",

@@ -10,4 +10,4 @@ Inv-loop-term g l =
     let m = g .F·Field .meaning (l .f) in
     let x = l .column in
     (s : ℕ) → s < length x → getD (l .sums) s 0 ≡ m .sum (getD (l .entry .sums) s 0)
-      (total m (l .term-index) (λ k. m .product (getD (l .terms) k no-term .coefficient) (getD x ((getD (l .terms) k no-term .shift + s) % length x) 0)))
+    (total m (l .term-index) (λ k. m .product (getD (l .terms) k no-term .coefficient) (getD x ((getD (l .terms) k no-term .shift + s) % length x) 0)))

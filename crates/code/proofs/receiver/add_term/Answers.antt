@@ -10,6 +10,6 @@ returns g c =
     let n = length (c .args .column .now) in
     let first = c .args .term .shift % n in
     term-added (m .sum) (m .product) n first (n - first) (c .args .term .shift) (c .args .term .coefficient)
-      (c .args .sums .now) (c .args .column .now) (c .add-scaled .last .sums) (c .add-scaled-2 .last .sums)
-      (c .pre .some) refl refl (c .pre .sized) refl (c .add-scaled .kept .sums) (c .add-scaled-2 .kept .sums)
-      (c .add-scaled .ensures) (c .add-scaled-2 .ensures)
+    (c .args .sums .now) (c .args .column .now) (c .add-scaled .last .sums) (c .add-scaled-2 .last .sums)
+    (c .pre .some) refl refl (c .pre .sized) refl (c .add-scaled .kept .sums) (c .add-scaled-2 .kept .sums)
+    (c .add-scaled .ensures) (c .add-scaled-2 .ensures)

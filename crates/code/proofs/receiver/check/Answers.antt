@@ -13,7 +13,8 @@ loop-row-again g c =
     let f = g .F·Field .meaning (c .args .f .now) in
     let s = c .args .shape .now in
     let Zero : ℕ → Type 0 = λ h. (k : ℕ) → k < s .size → syndrome f (s .size) (s .columns) (c .args .cells .now) (c .args .word .now) h k ≡ 0 in
-    let len : length (c .row-syndromes .last .sums) ≡ s .size = search (needs, places) in
-    (search (needs, places),
-     λ h k l m. below-more Zero (c .loop-row .row) (λ h' l' k' m'. c .loop-row .inv .1 h' k' l' m')
-       (λ k' m'. sym (c .row-syndromes .ensures k' m') ∙ c .in-rest .ensures tt k' (omega arith)) h l k m)
+    let len : length (c .row-syndromes .last .sums) ≡ s .size = search (needs, places) in (
+      search (needs, places),
+      λ h k l m. below-more Zero (c .loop-row .row) (λ h' l' k' m'. c .loop-row .inv .1 h' k' l' m')
+          (λ k' m'. sym (c .row-syndromes .ensures k' m') ∙ c .in-rest .ensures tt k' (omega arith)) h l k m,
+    )

@@ -8,4 +8,4 @@ abbrev pub Inv-loop-row : given.InvT-loop-row
 Inv-loop-row g l =
     (length (l .space) ≡ 512)
     × ((h k : ℕ) → h < l .row → k < l .shape .size
-      → syndrome (g .F·Field .meaning (l .f)) (l .shape .size) (l .shape .columns) (l .cells) (l .word) h k ≡ 0)
+    → syndrome (g .F·Field .meaning (l .f)) (l .shape .size) (l .shape .columns) (l .cells) (l .word) h k ≡ 0)

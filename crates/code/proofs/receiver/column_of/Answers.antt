@@ -12,5 +12,5 @@ returns c =
     let x = c .args .word .now in
     record {
       len = part-length start n x (omega (arith, c .column-start-start .ensures .within)) ∙ c .size .ensures;
-      symbols = λ l h. part-read start n x l (omega arith) ∙ ap (λ (k : ℕ). getD x (k + l) 0) (c .column-start-start .ensures .is)
+      symbols = λ l h. part-read start n x l (omega arith) ∙ ap (λ (k : ℕ). getD x (k + l) 0) (c .column-start-start .ensures .is);
     }

@@ -12,5 +12,5 @@ returns c =
     let e : j * c .size .result ≡ j * s .size = ap (λ (n : ℕ). j * n) (c .size .ensures) in
     record {
       is = e;
-      within = omega (arith, suc-mul j (s .size), mul-le (suc j) (s .size) (s .columns) (s .size) (c .pre) (omega arith))
+      within = omega (arith, suc-mul j (s .size), mul-le (suc j) (s .size) (s .columns) (s .size) (c .pre) (omega arith));
     }

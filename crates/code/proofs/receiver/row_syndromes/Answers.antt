@@ -28,8 +28,8 @@ add-cell-requires g c κs =
       sized = omega (arith, c .column-of-column .ensures .len);
       some = omega (arith, c .column-of-column .ensures .len);
       symbols = λ s h.
-        subst (λ (x : ℕ). x < f .q) (sym (c .loop-j .inv s (omega (arith, c .column-of-column .ensures .len))))
-          (total-below f (g .F·Field·met .lawful (c .args .f .now)) (c .loop-j .j) _)
+          subst (λ (x : ℕ). x < f .q) (sym (c .loop-j .inv s (omega (arith, c .column-of-column .ensures .len))))
+          (total-below f (g .F·Field·met .lawful (c .args .f .now)) (c .loop-j .j) _);
     }
 
 pub loop-j-again : need.loop-j-again
@@ -39,11 +39,11 @@ loop-j-again g c = λ s h.
     let row = cell-at (c .args .shape .now .columns) (c .args .cells .now) (c .args .row) (c .loop-j .j) in
     let len = c .column-of-column .ensures .len in
     row-more f (g .F·Field·met .lawful (c .args .f .now)) e (c .loop-j .j)
-      (λ j. cell-sum f e (terms-of (cell-at (c .args .shape .now .columns) (c .args .cells .now) (c .args .row) j)) (λ k. getD (c .args .word .now) (j * e + k) 0) s)
-      (c .terms .result .now) (terms-of row) (λ l. getD (c .column-of-column .result .now) l 0) (λ k. getD (c .args .word .now) (c .loop-j .j * e + k) 0)
-      s (getD (c .loop-j .sums) s 0) (getD (c .add-cell .last .sums) s 0) (omega arith)
-      (c .loop-j .inv s h)
-      (c .terms .ensures ∙ ap (λ (r : CellRow). take (r .count) (r .terms)) (c .cell-of-cell .ensures) ∙ terms-normal row)
-      (c .column-of-column .ensures .symbols) refl
-      (c .add-cell .ensures s (omega arith)
-        ∙ ap (λ (n : ℕ). f .sum (getD (c .loop-j .sums) s 0) (cell-sum f n (c .terms .result .now) (λ l. getD (c .column-of-column .result .now) l 0) s)) len)
+    (λ j. cell-sum f e (terms-of (cell-at (c .args .shape .now .columns) (c .args .cells .now) (c .args .row) j)) (λ k. getD (c .args .word .now) (j * e + k) 0) s)
+    (c .terms .result .now) (terms-of row) (λ l. getD (c .column-of-column .result .now) l 0) (λ k. getD (c .args .word .now) (c .loop-j .j * e + k) 0)
+    s (getD (c .loop-j .sums) s 0) (getD (c .add-cell .last .sums) s 0) (omega arith)
+    (c .loop-j .inv s h)
+    (c .terms .ensures ∙ ap (λ (r : CellRow). take (r .count) (r .terms)) (c .cell-of-cell .ensures) ∙ terms-normal row)
+    (c .column-of-column .ensures .symbols) refl
+    (c .add-cell .ensures s (omega arith)
+    ∙ ap (λ (n : ℕ). f .sum (getD (c .loop-j .sums) s 0) (cell-sum f n (c .terms .result .now) (λ l. getD (c .column-of-column .result .now) l 0) s)) len)

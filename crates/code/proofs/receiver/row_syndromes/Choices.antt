@@ -14,5 +14,5 @@ abbrev pub Inv-loop-j : given.InvT-loop-j
 Inv-loop-j g l =
     let e = l .shape .size in
     (s : ℕ) → s < e → getD (l .sums) s 0
-      ≡ total (g .F·Field .meaning (l .f)) (l .j)
-        (λ j. cell-sum (g .F·Field .meaning (l .f)) e (terms-of (cell-at (l .shape .columns) (l .cells) (l .row) j)) (λ k. getD (l .word) (j * e + k) 0) s)
+    ≡ total (g .F·Field .meaning (l .f)) (l .j)
+    (λ j. cell-sum (g .F·Field .meaning (l .f)) e (terms-of (cell-at (l .shape .columns) (l .cells) (l .row) j)) (λ k. getD (l .word) (j * e + k) 0) s)

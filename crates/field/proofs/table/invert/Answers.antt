@@ -17,6 +17,6 @@ returns c =
     let k = c .logarithm-of-k .result in
     let n = c .if-k-eq0 .power-at in
     let w : (n + k ≡ 511) ⊎ ((n ≡ 0) × (k ≡ 0)) =
-        elim (c .if-k-eq0 .came) [ then-k-eq0 w ↦ inr (omega (arith, w .power-at-is), omega arith) | else-k-eq0 w ↦ inl (omega (arith, w .power-at-is)) ] in
+    elim (c .if-k-eq0 .came) [ then-k-eq0 w ↦ inr (omega (arith, w .power-at-is), omega arith) | else-k-eq0 w ↦ inl (omega (arith, w .power-at-is)) ] in
     c .power-at .ensures
     ∙ inverse-by-exponent k (c .args .a) n (c .logarithm-of-k .ensures .is .1) (c .logarithm-of-k .ensures .is .0) w

@@ -10,5 +10,5 @@ returns c =
     let l = logarithm-is (c .args .a) (c .pre .0) (c .pre .1) in
     record {
       is = l;
-      only = λ k h e. powers-once 9 (omega arith) (omega arith) k (getD logarithms (c .args .a) 0) h (l .0) (e ∙ sym (l .1))
+      only = λ k h e. powers-once 9 (omega arith) (omega arith) k (getD logarithms (c .args .a) 0) h (l .0) (e ∙ sym (l .1));
     }

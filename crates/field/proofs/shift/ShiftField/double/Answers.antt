@@ -15,5 +15,5 @@ returns c =
     let is = double-by-shift (f .degree) (c .args .a) ((c .args .a * 2) % 65536) (c .select .result) e (c .select .ensures) in
     record {
       is = is;
-      below = subst (λ x. x < 2 ^ f .degree) (sym is) (double-lt (f .degree) (f .«degree_low») (f .«degree_high») (c .args .a) (c .pre))
+      below = subst (λ x. x < 2 ^ f .degree) (sym is) (double-lt (f .degree) (f .«degree_low») (f .«degree_high») (c .args .a) (c .pre));
     }

@@ -18,10 +18,11 @@ loop-i-again c =
     let i = c .loop-i .i in
     let d = c .args .b / 2 ^ (i - 1) in
     let e : bitXor (c .double .result) (c .select .result) ≡ bitXor (double r (c .loop-i .p)) (pick (d % 2) (c .args .a)) =
-        ap₂ bitXor (c .double .ensures .is) (c .select .ensures ∙ ap (λ (x : ℕ). pick x (c .args .a)) (and-mask d 1)) in
-    (subst (λ (x : ℕ). x < 2 ^ r) (sym e)
-      (next-lt r (f .«degree_low») (f .«degree_high») (c .loop-i .p) (d % 2) (c .args .a) (c .loop-i .inv .0) (c .pre .a-below)),
-     e ∙ horner-next r i (c .args .a) (c .args .b) (c .loop-i .p) (c .loop-i-test .taken) (c .loop-i .kept .i) (c .loop-i .inv .1))
+    ap₂ bitXor (c .double .ensures .is) (c .select .ensures ∙ ap (λ (x : ℕ). pick x (c .args .a)) (and-mask d 1)) in (
+      subst (λ (x : ℕ). x < 2 ^ r) (sym e)
+          (next-lt r (f .«degree_low») (f .«degree_high») (c .loop-i .p) (d % 2) (c .args .a) (c .loop-i .inv .0) (c .pre .a-below)),
+      e ∙ horner-next r i (c .args .a) (c .args .b) (c .loop-i .p) (c .loop-i-test .taken) (c .loop-i .kept .i) (c .loop-i .inv .1),
+    )
 
 pub returns : need.returns
 returns c =
@@ -29,5 +30,5 @@ returns c =
     record {
       is = horner-last (f .degree) (f .«degree_low») (f .«degree_high») (c .loop-i .i) (c .args .a) (c .args .b) (c .loop-i .p)
           (c .pre .a-below) (c .loop-i-test .left) (c .loop-i .inv .1);
-      below = c .loop-i .inv .0
+      below = c .loop-i .inv .0;
     }
