@@ -1,0 +1,2 @@
+// Encoding and recovery through the echelon forms of the check blocks.
+mod transform;
