@@ -1,2 +1,3 @@
 pub mod Horner
 pub mod Writes
+pub mod Found
