@@ -1,14 +1,17 @@
 -- Leading entries and free columns as loops find them.
-use Prim.Native.Nat.{ℕ, suc, _+_, _<_, _≤_}
-use mathlib.Core.Path.{_≡_, sym, ap, _∙_}
+use Prim.Native.Nat.{ℕ, suc, _+_, _*_, _<_, _≤_}
+use mathlib.Core.Path.{_≡_, sym, ap, ap₂, _∙_}
 use mathlib.Core.Bool.{Bool, true, false}
+use mathlib.Core.List.{List}
 use mathlib.Core.Logic.{_⊎_, ⊎-elim}
 use native.Mathlib.Omega.{arith}
 use native.Mathlib.Numerals.{add-one}
 use Rattle.std.proofs.shelf.Tests.{cases-bool, eq-eqb, ne-eqb}
 use Rattle.algebra.specs.Matrices.{starts, lead-row, free, count}
+use Rattle.algebra.specs.Solutions.{offset}
 use Rattle.algebra.proofs.Leads.{starts-true, starts-from}
 use Rattle.algebra.proofs.Counts.{count-true, count-false}
+use Rattle.coder.specs.Forms.{matrix, frees}
 
 pub starts-broken : (row : ℕ → ℕ) (j h : ℕ) → h < j → (row h ≡ 0 → ⊥) → false ≡ starts row j
 starts-broken row j h l ne =
@@ -31,3 +34,12 @@ count-more rows m j r n n' er en l w =
       (λ (t : (r ≡ rows → ⊥) × (n' ≡ n)).
         (t .1 ∙ en ∙ sym (count-false (free rows m) j (ne-eqb (lead-row rows m j) rows (λ e. t .0 (er ∙ e))))
          ∙ ap (λ (k : ℕ). count k (free rows m)) (sym (add-one j)), omega (arith, t .1))) w
+
+-- one block more
+pub offset-more : (rows columns : ℕ) (blocks : List ℕ) (t n k base r c : ℕ) → n ≡ offset columns (frees rows columns blocks) t → r ≡ rows → c ≡ columns
+  → base ≡ t * (rows * columns) → k ≡ count c (free r (matrix c blocks base)) → n + k ≡ offset columns (frees rows columns blocks) (t + 1)
+offset-more rows columns blocks t n k base r c en er ec eb ek =
+    let a : k ≡ count columns (frees rows columns blocks t) =
+        ek ∙ ap (λ (x : ℕ). count c (free r (matrix c blocks x))) eb ∙ ap (λ (x : ℕ). count c (free x (matrix c blocks (t * (rows * columns))))) er
+        ∙ ap (λ (x : ℕ). count x (free rows (matrix x blocks (t * (rows * columns))))) ec in
+    ap₂ (λ x y. x + y) en a ∙ ap (λ (x : ℕ). offset columns (frees rows columns blocks) x) (sym (add-one t))

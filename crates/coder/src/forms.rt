@@ -64,3 +64,24 @@ fn count_free(blocks: &[Symbol], base: usize, rows: usize, columns: usize) -> us
     }
     n
 }
+
+// Where the block at frequency `t` starts.
+fn block_start(shape: &Shape, t: usize) -> usize
+    requires { ⌜ t < now shape .size ⌝ }
+    ensures is { λ r. ⌜ r ≡ t * (now (shape .entry) .rows * now (shape .entry) .columns) ⌝ }
+    ensures within { λ r. ⌜ r + now (shape .entry) .rows * now (shape .entry) .columns ≤ 16384 ⌝ }
+{
+    t * (shape.rows() * shape.columns())
+}
+
+// The dimension: the number of free columns of all blocks together.
+pub(crate) fn count_dimension(shape: &Shape, blocks: &[Symbol]) -> usize
+    requires { ⌜ 16384 ≤ length (now blocks) ⌝ }
+    ensures { λ r. ⌜ r ≡ dimension (now (shape .entry) .rows) (now (shape .entry) .columns) (now (shape .entry) .size) (now (blocks .entry)) ⌝ }
+{
+    let mut n = 0;
+    for t in 0..shape.size() {
+        n += count_free(blocks, block_start(shape, t), shape.rows(), shape.columns());
+    }
+    n
+}
