@@ -1,3 +1,4 @@
 pub mod Horner
 pub mod Writes
 pub mod Found
+pub mod Fills

@@ -9,7 +9,7 @@ use array::Shape;
 use field::Symbol;
 
 // Entry (i, j) of a block.
-fn entry(blocks: &[Symbol], base: usize, rows: usize, columns: usize, i: usize, j: usize) -> Symbol
+pub(crate) fn entry(blocks: &[Symbol], base: usize, rows: usize, columns: usize, i: usize, j: usize) -> Symbol
     requires room { ⌜ base + rows * columns ≤ length (now blocks) ⌝ }
     requires row { ⌜ i < rows ⌝ }
     requires column { ⌜ j < columns ⌝ }
@@ -37,7 +37,7 @@ fn is_start(blocks: &[Symbol], base: usize, rows: usize, columns: usize, i: usiz
 }
 
 // The first row of a block that leads in column j, or the number of rows where the column is free.
-fn lead_row_of(blocks: &[Symbol], base: usize, rows: usize, columns: usize, j: usize) -> usize
+pub(crate) fn lead_row_of(blocks: &[Symbol], base: usize, rows: usize, columns: usize, j: usize) -> usize
     requires room { ⌜ base + rows * columns ≤ length (now blocks) ⌝ }
     requires column { ⌜ j < columns ⌝ }
     ensures { λ r. ⌜ r ≡ lead-row rows (matrix columns (now (blocks .entry)) base) j ⌝ }
@@ -51,7 +51,7 @@ fn lead_row_of(blocks: &[Symbol], base: usize, rows: usize, columns: usize, j: u
 }
 
 // The number of free columns of a block.
-fn count_free(blocks: &[Symbol], base: usize, rows: usize, columns: usize) -> usize
+pub(crate) fn count_free(blocks: &[Symbol], base: usize, rows: usize, columns: usize) -> usize
     requires { ⌜ base + rows * columns ≤ length (now blocks) ⌝ }
     ensures is { λ r. ⌜ r ≡ count columns (free rows (matrix columns (now (blocks .entry)) base)) ⌝ }
     ensures few { λ r. ⌜ r ≤ columns ⌝ }
@@ -66,7 +66,7 @@ fn count_free(blocks: &[Symbol], base: usize, rows: usize, columns: usize) -> us
 }
 
 // Where the block at frequency `t` starts.
-fn block_start(shape: &Shape, t: usize) -> usize
+pub(crate) fn block_start(shape: &Shape, t: usize) -> usize
     requires { ⌜ t < now shape .size ⌝ }
     ensures is { λ r. ⌜ r ≡ t * (now (shape .entry) .rows * now (shape .entry) .columns) ⌝ }
     ensures within { λ r. ⌜ r + now (shape .entry) .rows * now (shape .entry) .columns ≤ 16384 ⌝ }
