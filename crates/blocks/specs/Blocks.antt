@@ -5,7 +5,8 @@ use mathlib.Core.List.{List}
 use lib.ListN.{length, getD}
 use Rattle.field.specs.Meaning.{Meaning, power}
 use Rattle.field.specs.Sums.{total}
-use Rattle.algebra.specs.Transforms.{root, generator}
+use Rattle.algebra.specs.Matrices.{Reduced}
+use Rattle.algebra.specs.Transforms.{root, generator, check-block}
 use Rattle.array.specs.declared.plain.Term.{Term}
 use Rattle.array.specs.declared.plain.CellRow.{CellRow}
 use Rattle.array.specs.Cells.{no-term, terms-of}
@@ -36,3 +37,8 @@ pub record AddedAt (f : Meaning) (places e k : ℕ) (v : ℕ → ℕ) (before af
 pub record Built (f : Meaning) (places e : ℕ) (cells : List CellRow) (before after : List ℕ) : Type 0 where
   pub entry : (t k : ℕ) → t < e → k < places → getD after (t * places + k) 0 ≡ terms-at f e (terms-of (getD cells k blank)) t
   pub past : (i : ℕ) → places * e ≤ i → getD after i 0 ≡ getD before i 0
+
+-- The buffer holds the reduced row echelon form of the check block at every frequency.
+abbrev pub Holds : Meaning → ℕ → ℕ → ℕ → List CellRow → List ℕ → Type 0
+Holds f e rows columns cells blocks = (t : ℕ) → t < e →
+    (rank : ℕ) × Reduced f rows columns (check-block f e (circulant f e columns cells) t) (block-at rows columns blocks t) rank

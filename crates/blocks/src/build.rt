@@ -16,11 +16,25 @@ use field::Field;
 use field::Symbol;
 
 // How many places a block has.
-fn places(shape: &Shape) -> usize
+pub(crate) fn places(shape: &Shape) -> usize
     ensures is { λ r. ⌜ r ≡ now (shape .entry) .rows * now (shape .entry) .columns ⌝ }
     ensures few { λ r. ⌜ r ≤ 512 ⌝ }
 {
     shape.rows() * shape.columns()
+}
+
+// Where the block at frequency `t` starts in the buffer; 0 where there is no such frequency.
+pub fn block_start(shape: &Shape, t: usize) -> usize
+    ensures inside { λ r.
+        let s = now (shape .entry) in
+        ⌜ (t < s .size → (r ≡ t * (s .rows * s .columns)) × (r + s .rows * s .columns ≤ 16384)) ⌝ }
+    ensures outside { λ r. ⌜ (now (shape .entry) .size ≤ t → r ≡ 0) ⌝ }
+{
+    if t < shape.size() {
+        t * places(shape)
+    } else {
+        0
+    }
 }
 
 // Where place `k` of the block at frequency `t` stands.
@@ -34,7 +48,14 @@ fn entry_place(shape: &Shape, t: usize, k: usize) -> usize
 }
 
 // Adds one term to place `k` of every block.
-fn add_term<F: Field>(f: &F, shape: &Shape, alpha: Symbol, blocks: &mut [Symbol], k: usize, term: Term)
+fn add_term<F: Field>(
+    f: &F,
+    shape: &Shape,
+    alpha: Symbol,
+    blocks: &mut [Symbol],
+    k: usize,
+    term: Term,
+)
     requires root { ⌜ alpha ≡ root-of (F·Field .meaning (now f)) (now shape .size) ⌝ }
     requires place { ⌜ k < now shape .rows * now shape .columns ⌝ }
     requires room { ⌜ 16384 ≤ length (now blocks) ⌝ }
@@ -42,8 +63,8 @@ fn add_term<F: Field>(f: &F, shape: &Shape, alpha: Symbol, blocks: &mut [Symbol]
         let m = F·Field .meaning (now (f .entry)) in
         let s = now (shape .entry) in
         ⌜ AddedAt m (s .rows * s .columns) (s .size) k
-            (λ t. m .product (term .coefficient) (power m (root-of m (s .size)) ((term .shift % s .size) * t)))
-            (now (blocks .entry)) (now (blocks .exit)) ⌝ }
+        (λ t. m .product (term .coefficient) (power m (root-of m (s .size)) ((term .shift % s .size) * t)))
+        (now (blocks .entry)) (now (blocks .exit)) ⌝ }
 {
     let step = power_of(f, alpha, term.shift as usize % shape.size());
     let mut p = f.product(term.coefficient, 1);
@@ -55,7 +76,14 @@ fn add_term<F: Field>(f: &F, shape: &Shape, alpha: Symbol, blocks: &mut [Symbol]
 }
 
 // Adds all terms of a cell to place `k` of every block.
-fn add_cell<F: Field>(f: &F, shape: &Shape, alpha: Symbol, blocks: &mut [Symbol], k: usize, terms: &[Term])
+fn add_cell<F: Field>(
+    f: &F,
+    shape: &Shape,
+    alpha: Symbol,
+    blocks: &mut [Symbol],
+    k: usize,
+    terms: &[Term],
+)
     requires root { ⌜ alpha ≡ root-of (F·Field .meaning (now f)) (now shape .size) ⌝ }
     requires place { ⌜ k < now shape .rows * now shape .columns ⌝ }
     requires room { ⌜ 16384 ≤ length (now blocks) ⌝ }
@@ -65,7 +93,7 @@ fn add_cell<F: Field>(f: &F, shape: &Shape, alpha: Symbol, blocks: &mut [Symbol]
         let m = F·Field .meaning (now (f .entry)) in
         let s = now (shape .entry) in
         ⌜ AddedAt m (s .rows * s .columns) (s .size) k (terms-at m (s .size) (now (terms .entry)))
-            (now (blocks .entry)) (now (blocks .exit)) ⌝ }
+        (now (blocks .entry)) (now (blocks .exit)) ⌝ }
 {
     for term in terms {
         add_term(f, shape, alpha, blocks, k, *term);

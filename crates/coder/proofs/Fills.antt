@@ -21,10 +21,10 @@ use Rattle.algebra.proofs.Leads.{lead-row-cases}
 
 -- one place more of a list that a loop fills
 pub stored : (u : ℕ → ℕ) (xs : List ℕ) (i x : ℕ) → i < length xs → ((h : ℕ) → h < i → getD xs h 0 ≡ u h) → x ≡ u i
-  → (h : ℕ) → h < i + 1 → getD (set xs i x) h 0 ≡ u h
+    → (h : ℕ) → h < i + 1 → getD (set xs i x) h 0 ≡ u h
 stored u xs i x l a e =
     below-more (λ (h : ℕ). getD (set xs i x) h 0 ≡ u h) i
-      (λ h g. getD-set-other xs i h x 0 (λ s. omega arith) ∙ a h g) (getD-set-same xs i x 0 l ∙ e)
+    (λ h g. getD-set-other xs i h x 0 (λ s. omega arith) ∙ a h g) (getD-set-same xs i x 0 l ∙ e)
 
 module _ (rows : ℕ) (m : ℕ → ℕ → ℕ) (j r : ℕ) (er : r ≡ lead-row rows m j) where
   pub is-free : r ≡ rows → free rows m j ≡ true
@@ -48,11 +48,11 @@ module _ (f : Meaning) (w : Lawful f) (rows c : ℕ) (m : ℕ → ℕ → ℕ) (
   part : (i h : ℕ) → h < c → f .product (m i h) (u h) ≡ cond (free rows m h) (f .product (m i h) (v h)) 0
   part i h l =
       ⊎-elim
-        (λ (t : free rows m h ≡ true).
-          ap (f .product (m i h)) (eu h l ∙ cond-true (free rows m h) (v h) 0 t) ∙ sym (cond-true (free rows m h) (f .product (m i h) (v h)) 0 t))
-        (λ (t : free rows m h ≡ false).
-          ap (f .product (m i h)) (eu h l ∙ cond-false (free rows m h) (v h) 0 t) ∙ product-zero f w (m i h)
-          ∙ sym (cond-false (free rows m h) (f .product (m i h) (v h)) 0 t)) (cases-bool (free rows m h))
+      (λ (t : free rows m h ≡ true).
+      ap (f .product (m i h)) (eu h l ∙ cond-true (free rows m h) (v h) 0 t) ∙ sym (cond-true (free rows m h) (f .product (m i h) (v h)) 0 t))
+      (λ (t : free rows m h ≡ false).
+      ap (f .product (m i h)) (eu h l ∙ cond-false (free rows m h) (v h) 0 t) ∙ product-zero f w (m i h)
+      ∙ sym (cond-false (free rows m h) (f .product (m i h) (v h)) 0 t)) (cases-bool (free rows m h))
 
   pub solved-at-free : (j x : ℕ) → j < c → free rows m j ≡ true → x ≡ u j → x ≡ solved f rows c m v j
   unfolding solved
@@ -64,7 +64,7 @@ module _ (f : Meaning) (w : Lawful f) (rows c : ℕ) (m : ℕ → ℕ → ℕ) (
   solved-at-lead j i x ei t e =
       e ∙ ap (λ (i : ℕ). total f c (λ h. f .product (m i h) (u h))) ei
       ∙ total-same f w c (λ h. f .product (m (lead-row rows m j) h) (u h))
-          (λ h. cond (free rows m h) (f .product (m (lead-row rows m j) h) (v h)) 0) (λ h l. part (lead-row rows m j) h l)
+      (λ h. cond (free rows m h) (f .product (m (lead-row rows m j) h) (v h)) 0) (λ h l. part (lead-row rows m j) h l)
       ∙ sym (cond-false (free rows m j) (v j) (free-part f rows c m (lead-row rows m j) v) t)
 
 pub lead-row-le : (rows : ℕ) (m : ℕ → ℕ → ℕ) (j : ℕ) → lead-row rows m j ≤ rows

@@ -25,21 +25,25 @@ starts-found row j h ne l z = sym (starts-from row j (positive (row j) ne) (λ k
 
 -- one column more is counted where it is free
 pub count-more : (rows : ℕ) (m : ℕ → ℕ → ℕ) (j r n n' : ℕ) → r ≡ lead-row rows m j → n ≡ count j (free rows m) → n ≤ j
-  → ((r ≡ rows) × (n' ≡ n + 1)) ⊎ ((r ≡ rows → ⊥) × (n' ≡ n)) → (n' ≡ count (j + 1) (free rows m)) × (n' ≤ j + 1)
+    → ((r ≡ rows) × (n' ≡ n + 1)) ⊎ ((r ≡ rows → ⊥) × (n' ≡ n)) → (n' ≡ count (j + 1) (free rows m)) × (n' ≤ j + 1)
 count-more rows m j r n n' er en l w =
     ⊎-elim
-      (λ (t : (r ≡ rows) × (n' ≡ n + 1)).
-        (t .1 ∙ add-one n ∙ ap suc en ∙ sym (count-true (free rows m) j (eq-eqb (lead-row rows m j) rows (sym er ∙ t .0)))
-         ∙ ap (λ (k : ℕ). count k (free rows m)) (sym (add-one j)), omega (arith, t .1)))
-      (λ (t : (r ≡ rows → ⊥) × (n' ≡ n)).
-        (t .1 ∙ en ∙ sym (count-false (free rows m) j (ne-eqb (lead-row rows m j) rows (λ e. t .0 (er ∙ e))))
-         ∙ ap (λ (k : ℕ). count k (free rows m)) (sym (add-one j)), omega (arith, t .1))) w
+    (λ (t : (r ≡ rows) × (n' ≡ n + 1)). (
+      t .1 ∙ add-one n ∙ ap suc en ∙ sym (count-true (free rows m) j (eq-eqb (lead-row rows m j) rows (sym er ∙ t .0)))
+          ∙ ap (λ (k : ℕ). count k (free rows m)) (sym (add-one j)),
+      omega (arith, t .1),
+    ))
+    (λ (t : (r ≡ rows → ⊥) × (n' ≡ n)). (
+      t .1 ∙ en ∙ sym (count-false (free rows m) j (ne-eqb (lead-row rows m j) rows (λ e. t .0 (er ∙ e))))
+          ∙ ap (λ (k : ℕ). count k (free rows m)) (sym (add-one j)),
+      omega (arith, t .1),
+    )) w
 
 -- one block more
 pub offset-more : (rows columns : ℕ) (blocks : List ℕ) (t n k base r c : ℕ) → n ≡ offset columns (frees rows columns blocks) t → r ≡ rows → c ≡ columns
-  → base ≡ t * (rows * columns) → k ≡ count c (free r (matrix c blocks base)) → n + k ≡ offset columns (frees rows columns blocks) (t + 1)
+    → base ≡ t * (rows * columns) → k ≡ count c (free r (matrix c blocks base)) → n + k ≡ offset columns (frees rows columns blocks) (t + 1)
 offset-more rows columns blocks t n k base r c en er ec eb ek =
     let a : k ≡ count columns (frees rows columns blocks t) =
-        ek ∙ ap (λ (x : ℕ). count c (free r (matrix c blocks x))) eb ∙ ap (λ (x : ℕ). count c (free x (matrix c blocks (t * (rows * columns))))) er
-        ∙ ap (λ (x : ℕ). count x (free rows (matrix x blocks (t * (rows * columns))))) ec in
+    ek ∙ ap (λ (x : ℕ). count c (free r (matrix c blocks x))) eb ∙ ap (λ (x : ℕ). count c (free x (matrix c blocks (t * (rows * columns))))) er
+    ∙ ap (λ (x : ℕ). count x (free rows (matrix x blocks (t * (rows * columns))))) ec in
     ap₂ (λ x y. x + y) en a ∙ ap (λ (x : ℕ). offset columns (frees rows columns blocks) x) (sym (add-one t))

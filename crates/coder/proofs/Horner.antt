@@ -20,21 +20,21 @@ module _ (f : Meaning) (w : Lawful f) (x : ℕ) where
   value-first n y =
       total-first f w n (λ t. f .product (y t) (power f x t))
       ∙ ap (f .sum (f .product (y 0) 1))
-        (total-same f w n (λ t. f .product (y (suc t)) (power f x (suc t))) (λ t. f .product x (f .product (y (suc t)) (power f x t)))
-          (λ t l. sym (w .product-assoc (y (suc t)) x (power f x t)) ∙ ap (λ (z : ℕ). f .product z (power f x t)) (w .product-comm (y (suc t)) x)
-            ∙ w .product-assoc x (y (suc t)) (power f x t))
-        ∙ total-product f w n x (λ t. f .product (y (suc t)) (power f x t)))
+      (total-same f w n (λ t. f .product (y (suc t)) (power f x (suc t))) (λ t. f .product x (f .product (y (suc t)) (power f x t)))
+      (λ t l. sym (w .product-assoc (y (suc t)) x (power f x t)) ∙ ap (λ (z : ℕ). f .product z (power f x t)) (w .product-comm (y (suc t)) x)
+      ∙ w .product-assoc x (y (suc t)) (power f x t))
+      ∙ total-product f w n x (λ t. f .product (y (suc t)) (power f x t)))
       ∙ sum-symbol f w (y 0) (f .product x (value f n (λ t. y (suc t)) x))
 
   -- with coefficients i and above done, coefficient i - 1 is next
   pub horner-more : (n i : ℕ) (y : ℕ → ℕ) (was now : ℕ) → 0 < i → i ≤ n → was ≡ value f (n - i) (λ t. y (i + t)) x
-    → now ≡ f .sum (y (i - 1)) (f .product x was) → now ≡ value f (n - (i - 1)) (λ t. y (i - 1 + t)) x
+      → now ≡ f .sum (y (i - 1)) (f .product x was) → now ≡ value f (n - (i - 1)) (λ t. y (i - 1 + t)) x
   horner-more n i y was now l h ew en =
       let k : n - (i - 1) ≡ suc (n - i) = omega arith in
       en
       ∙ ap₂ (λ a b. f .sum a (f .product x b)) (ap y (sym (add-zero (i - 1))))
-        (ew ∙ total-same f w (n - i) (λ t. f .product (y (i + t)) (power f x t)) (λ t. f .product (y (i - 1 + suc t)) (power f x t))
-          (λ t g. ap (λ (m : ℕ). f .product (y m) (power f x t)) (omega arith)))
+      (ew ∙ total-same f w (n - i) (λ t. f .product (y (i + t)) (power f x t)) (λ t. f .product (y (i - 1 + suc t)) (power f x t))
+      (λ t g. ap (λ (m : ℕ). f .product (y m) (power f x t)) (omega arith)))
       ∙ sym (value-first (n - i) (λ t. y (i - 1 + t)))
       ∙ ap (λ (m : ℕ). value f m (λ t. y (i - 1 + t)) x) (sym k)
 
@@ -46,16 +46,16 @@ module _ (f : Meaning) (w : Lawful f) (x : ℕ) where
       let k : n - i ≡ n = omega arith in
       e ∙ ap (λ (m : ℕ). value f m (λ t. y (i + t)) x) k
       ∙ total-same f w n (λ t. f .product (y (i + t)) (power f x t)) (λ t. f .product (y t) (power f x t))
-        (λ t g. ap (λ (m : ℕ). f .product (y m) (power f x t)) (omega arith))
+      (λ t g. ap (λ (m : ℕ). f .product (y m) (power f x t)) (omega arith))
 
 -- the values at the powers of the root are the inverse transform, and at the powers of its inverse the spectrum
 pub value-power : (f : Meaning) → Lawful f → (n a l : ℕ) (y : ℕ → ℕ) → value f n y (power f a l) ≡ total f n (λ t. f .product (y t) (power f a (l * t)))
 value-power f w n a l y =
     total-same f w n (λ t. f .product (y t) (power f (power f a l) t)) (λ t. f .product (y t) (power f a (l * t)))
-      (λ t h. ap (f .product (y t)) (power-mul f w a l t))
+    (λ t h. ap (f .product (y t)) (power-mul f w a l t))
 
 pub value-at : (f : Meaning) → Lawful f → (e n a x l : ℕ) (xs : List ℕ) (columns c' j : ℕ) → n ≡ e → columns ≡ c' → x ≡ power f a l
-  → value f n (coefficient columns xs j) x ≡ total f e (λ t. f .product (coefficient c' xs j t) (power f a (l * t)))
+    → value f n (coefficient columns xs j) x ≡ total f e (λ t. f .product (coefficient c' xs j t) (power f a (l * t)))
 value-at f w e n a x l xs columns c' j en ec ex =
     ap (λ (k : ℕ). value f k (coefficient columns xs j) x) en ∙ ap (λ (k : ℕ). value f e (coefficient k xs j) x) ec
     ∙ ap (value f e (coefficient c' xs j)) ex ∙ value-power f w e a l (coefficient c' xs j)

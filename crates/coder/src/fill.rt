@@ -20,7 +20,15 @@ fn symbol_at(xs: &[Symbol], k: usize) -> Symbol
 }
 
 // The message symbols from `first` on, one for each free column of a block, and 0 in the leading columns.
-fn spread_free(blocks: &[Symbol], base: usize, rows: usize, columns: usize, message: &[Symbol], first: usize, values: &mut [Symbol])
+fn spread_free(
+    blocks: &[Symbol],
+    base: usize,
+    rows: usize,
+    columns: usize,
+    message: &[Symbol],
+    first: usize,
+    values: &mut [Symbol],
+)
     requires room { ⌜ base + rows * columns ≤ length (now blocks) ⌝ }
     requires sized { ⌜ length (now values) ≡ columns ⌝ }
     requires few { ⌜ first ≤ 65536 ⌝ }
@@ -40,7 +48,14 @@ fn spread_free(blocks: &[Symbol], base: usize, rows: usize, columns: usize, mess
 }
 
 // Row i of a block times a vector.
-fn row_times<F: Field>(f: &F, blocks: &[Symbol], base: usize, rows: usize, i: usize, values: &[Symbol]) -> Symbol
+fn row_times<F: Field>(
+    f: &F,
+    blocks: &[Symbol],
+    base: usize,
+    rows: usize,
+    i: usize,
+    values: &[Symbol],
+) -> Symbol
     requires room { ⌜ base + rows * length (now values) ≤ length (now blocks) ⌝ }
     requires row { ⌜ i < rows ⌝ }
     ensures { λ r.
@@ -50,13 +65,23 @@ fn row_times<F: Field>(f: &F, blocks: &[Symbol], base: usize, rows: usize, i: us
 {
     let mut sum = 0;
     for h in 0..values.len() {
-        sum = f.sum(sum, f.product(entry(blocks, base, rows, values.len(), i, h), values[h]));
+        sum = f.sum(
+            sum,
+            f.product(entry(blocks, base, rows, values.len(), i, h), values[h]),
+        );
     }
     sum
 }
 
 // The solution of a block that has the given symbols in its free columns.
-fn solve<F: Field>(f: &F, blocks: &[Symbol], base: usize, rows: usize, values: &[Symbol], row: &mut [Symbol])
+fn solve<F: Field>(
+    f: &F,
+    blocks: &[Symbol],
+    base: usize,
+    rows: usize,
+    values: &[Symbol],
+    row: &mut [Symbol],
+)
     requires room { ⌜ base + rows * length (now values) ≤ length (now blocks) ⌝ }
     requires sized { ⌜ length (now row) ≡ length (now values) ⌝ }
     ensures { λ _.
@@ -64,10 +89,14 @@ fn solve<F: Field>(f: &F, blocks: &[Symbol], base: usize, rows: usize, values: &
         let n = length (now (values .entry)) in
         let b = matrix n (now (blocks .entry)) base in
         ⌜ ((v : ℕ → ℕ) → ((j : ℕ) → j < n → getD (now (values .entry)) j 0 ≡ cond (free rows b j) (v j) 0) →
-            (j : ℕ) → j < n → getD (now (row .exit)) j 0 ≡ solved m rows n b v j) ⌝ }
+        (j : ℕ) → j < n → getD (now (row .exit)) j 0 ≡ solved m rows n b v j) ⌝ }
 {
     for j in 0..values.len() {
         let i = lead_row_of(blocks, base, rows, values.len(), j);
-        row[j] = if i < rows { row_times(f, blocks, base, rows, i, values) } else { values[j] };
+        row[j] = if i < rows {
+            row_times(f, blocks, base, rows, i, values)
+        } else {
+            values[j]
+        };
     }
 }

@@ -6,10 +6,18 @@ ghost use lib.ListN.{length, getD};
 ghost use Rattle.algebra.specs.Matrices.{starts, lead-row, free, count};
 ghost use Rattle.coder.specs.Forms.{matrix, dimension};
 use array::Shape;
+use blocks::block_start;
 use field::Symbol;
 
 // Entry (i, j) of a block.
-pub(crate) fn entry(blocks: &[Symbol], base: usize, rows: usize, columns: usize, i: usize, j: usize) -> Symbol
+pub(crate) fn entry(
+    blocks: &[Symbol],
+    base: usize,
+    rows: usize,
+    columns: usize,
+    i: usize,
+    j: usize,
+) -> Symbol
     requires room { ⌜ base + rows * columns ≤ length (now blocks) ⌝ }
     requires row { ⌜ i < rows ⌝ }
     requires column { ⌜ j < columns ⌝ }
@@ -37,7 +45,13 @@ fn is_start(blocks: &[Symbol], base: usize, rows: usize, columns: usize, i: usiz
 }
 
 // The first row of a block that leads in column j, or the number of rows where the column is free.
-pub(crate) fn lead_row_of(blocks: &[Symbol], base: usize, rows: usize, columns: usize, j: usize) -> usize
+pub(crate) fn lead_row_of(
+    blocks: &[Symbol],
+    base: usize,
+    rows: usize,
+    columns: usize,
+    j: usize,
+) -> usize
     requires room { ⌜ base + rows * columns ≤ length (now blocks) ⌝ }
     requires column { ⌜ j < columns ⌝ }
     ensures { λ r. ⌜ r ≡ lead-row rows (matrix columns (now (blocks .entry)) base) j ⌝ }
@@ -63,15 +77,6 @@ pub(crate) fn count_free(blocks: &[Symbol], base: usize, rows: usize, columns: u
         }
     }
     n
-}
-
-// Where the block at frequency `t` starts.
-pub(crate) fn block_start(shape: &Shape, t: usize) -> usize
-    requires { ⌜ t < now shape .size ⌝ }
-    ensures is { λ r. ⌜ r ≡ t * (now (shape .entry) .rows * now (shape .entry) .columns) ⌝ }
-    ensures within { λ r. ⌜ r + now (shape .entry) .rows * now (shape .entry) .columns ≤ 16384 ⌝ }
-{
-    t * (shape.rows() * shape.columns())
 }
 
 // The dimension: the number of free columns of all blocks together.

@@ -14,7 +14,7 @@ fn step_row<F: Field>(f: &F, sums: &mut [Symbol], row: &[Symbol], x: Symbol)
     ensures { λ _.
         let m = F·Field .meaning (now (f .entry)) in
         ⌜ ((j : ℕ) → j < length (now (row .entry)) →
-            getD (now (sums .exit)) j 0 ≡ m .sum (getD (now (row .entry)) j 0) (m .product x (getD (now (sums .entry)) j 0))) ⌝ }
+        getD (now (sums .exit)) j 0 ≡ m .sum (getD (now (row .entry)) j 0) (m .product x (getD (now (sums .entry)) j 0))) ⌝ }
 {
     for j in 0..row.len() {
         sums[j] = f.sum(row[j], f.product(sums[j], x));
@@ -80,7 +80,7 @@ fn synthesize<F: Field>(f: &F, shape: &Shape, alpha: Symbol, work: &[Symbol], ou
     ensures word { λ _.
         let s = now (shape .entry) in
         ⌜ ((j l : ℕ) → j < s .columns → l < s .size → getD (now (out .exit)) (j * s .size + l) 0
-            ≡ synthesis (F·Field .meaning (now (f .entry))) (s .size) (coefficient (s .columns) (now (work .entry)) j) l) ⌝ }
+        ≡ synthesis (F·Field .meaning (now (f .entry))) (s .size) (coefficient (s .columns) (now (work .entry)) j) l) ⌝ }
     ensures rest { λ _. ⌜ ((i : ℕ) → now (shape .entry) .columns * now (shape .entry) .size ≤ i →
         getD (now (out .exit)) i 0 ≡ getD (now (out .entry)) i 0) ⌝ }
 {

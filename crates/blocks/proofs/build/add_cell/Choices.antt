@@ -12,5 +12,5 @@ Inv-loop-term g l =
     let m = g .F·Field .meaning (l .f) in
     let e = l .shape .size in
     AddedAt m (l .shape .rows * l .shape .columns) e (l .k)
-      (λ t. total m (l .term-index) (λ i. m .product (getD (l .terms) i no-term .coefficient) (power m (root m e) ((getD (l .terms) i no-term .shift % e) * t))))
-      (l .entry .blocks) (l .blocks)
+    (λ t. total m (l .term-index) (λ i. m .product (getD (l .terms) i no-term .coefficient) (power m (root m e) ((getD (l .terms) i no-term .shift % e) * t))))
+    (l .entry .blocks) (l .blocks)

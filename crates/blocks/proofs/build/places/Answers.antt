@@ -6,6 +6,6 @@ use Rattle.blocks.proofs.build.places.Needs as need
 
 pub returns : need.returns
 returns c = record {
-    is = ap₂ (λ a b. a * b) (c .rows .ensures) (c .columns .ensures);
-    few = mul-le (c .rows .result) (c .columns .result) 8 64 (omega arith) (omega arith)
-  }
+  is = ap₂ (λ a b. a * b) (c .rows .ensures) (c .columns .ensures);
+  few = mul-le (c .rows .result) (c .columns .result) 8 64 (omega arith) (omega arith);
+}

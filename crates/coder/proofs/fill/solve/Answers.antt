@@ -20,9 +20,10 @@ loop-j-again g c = λ v hv.
     let j = c .loop-j .j in
     let i = c .lead-row-of-i .result in
     let e : c .if-i-rows .row ≡ solved f rows n m v j =
-        elim (c .if-i-rows .came) [
-          then-i-rows w' ↦ solved-at-lead f w rows n m v u hv j i (c .if-i-rows .row) (c .lead-row-of-i .ensures)
-            (is-taken rows m j i (c .lead-row-of-i .ensures) (λ s. omega (arith, w' .if-i-rows .taken))) (w' .row-is ∙ w' .row-times .ensures)
-        | else-i-rows w' ↦ solved-at-free f w rows n m v u hv j (c .if-i-rows .row) (c .loop-j-test .taken)
-            (is-free rows m j i (c .lead-row-of-i .ensures) (omega (arith, w' .if-i-rows .left, c .lead-row-of-i .ensures, lead-row-le rows m j))) (w' .row-is) ] in
+    elim (c .if-i-rows .came) [
+      | then-i-rows w' ↦ solved-at-lead f w rows n m v u hv j i (c .if-i-rows .row) (c .lead-row-of-i .ensures)
+          (is-taken rows m j i (c .lead-row-of-i .ensures) (λ s. omega (arith, w' .if-i-rows .taken))) (w' .row-is ∙ w' .row-times .ensures)
+      | else-i-rows w' ↦ solved-at-free f w rows n m v u hv j (c .if-i-rows .row) (c .loop-j-test .taken)
+          (is-free rows m j i (c .lead-row-of-i .ensures) (omega (arith, w' .if-i-rows .left, c .lead-row-of-i .ensures, lead-row-le rows m j))) (w' .row-is)
+    ] in
     stored (solved f rows n m v) (c .loop-j .row) j (c .if-i-rows .row) (omega arith) (c .loop-j .inv v hv) e

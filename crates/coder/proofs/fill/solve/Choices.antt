@@ -13,4 +13,4 @@ Inv-loop-j g l =
     let n = length (l .values) in
     let b = matrix n (l .blocks) (l .base) in
     (v : ℕ → ℕ) → ((j : ℕ) → j < n → getD (l .values) j 0 ≡ cond (free (l .rows) b j) (v j) 0)
-      → (j : ℕ) → j < l .j → getD (l .row) j 0 ≡ solved m (l .rows) n b v j
+    → (j : ℕ) → j < l .j → getD (l .row) j 0 ≡ solved m (l .rows) n b v j

@@ -23,14 +23,19 @@ loop-j-again c =
     let u : ℕ → ℕ = λ h. cond (p h) (getD msg (first + count h p) 0) 0 in
     let room : j < length (c .loop-j .values) = omega arith in
     elim (c .if-lead-row-of-rows .came) [
-      then-lead-row-of-rows w ↦
-        let t = is-free rows m j (c .lead-row-of .result) (c .lead-row-of .ensures) (w .if-lead-row-of-rows .taken) in
-        (spread-free p first j k (c .if-lead-row-of-rows .k) t (c .loop-j .inv .0) (w .k-is), omega (arith, w .k-is),
-         subst (λ (xs : List ℕ). (h : ℕ) → h < j + 1 → getD xs h 0 ≡ u h) (sym (w .values-is))
-           (stored u (c .loop-j .values) j (w .symbol-at .result) room (c .loop-j .inv .2)
-             (w .symbol-at .ensures ∙ ap (λ (n : ℕ). getD msg n 0) (c .loop-j .inv .0) ∙ sym (cond-true (p j) (getD msg (first + count j p) 0) 0 t))))
-    | else-lead-row-of-rows w ↦
-        let t = is-taken rows m j (c .lead-row-of .result) (c .lead-row-of .ensures) (w .if-lead-row-of-rows .left) in
-        (spread-taken p first j k (c .if-lead-row-of-rows .k) t (c .loop-j .inv .0) (w .k-is), omega (arith, w .k-is),
-         subst (λ (xs : List ℕ). (h : ℕ) → h < j + 1 → getD xs h 0 ≡ u h) (sym (w .values-is))
-           (stored u (c .loop-j .values) j 0 room (c .loop-j .inv .2) (sym (cond-false (p j) (getD msg (first + count j p) 0) 0 t)))) ]
+      | then-lead-row-of-rows w ↦
+          let t = is-free rows m j (c .lead-row-of .result) (c .lead-row-of .ensures) (w .if-lead-row-of-rows .taken) in (
+            spread-free p first j k (c .if-lead-row-of-rows .k) t (c .loop-j .inv .0) (w .k-is),
+            omega (arith, w .k-is),
+            subst (λ (xs : List ℕ). (h : ℕ) → h < j + 1 → getD xs h 0 ≡ u h) (sym (w .values-is))
+                (stored u (c .loop-j .values) j (w .symbol-at .result) room (c .loop-j .inv .2)
+                (w .symbol-at .ensures ∙ ap (λ (n : ℕ). getD msg n 0) (c .loop-j .inv .0) ∙ sym (cond-true (p j) (getD msg (first + count j p) 0) 0 t))),
+          )
+      | else-lead-row-of-rows w ↦
+          let t = is-taken rows m j (c .lead-row-of .result) (c .lead-row-of .ensures) (w .if-lead-row-of-rows .left) in (
+            spread-taken p first j k (c .if-lead-row-of-rows .k) t (c .loop-j .inv .0) (w .k-is),
+            omega (arith, w .k-is),
+            subst (λ (xs : List ℕ). (h : ℕ) → h < j + 1 → getD xs h 0 ≡ u h) (sym (w .values-is))
+                (stored u (c .loop-j .values) j 0 room (c .loop-j .inv .2) (sym (cond-false (p j) (getD msg (first + count j p) 0) 0 t))),
+          )
+    ]

@@ -13,8 +13,9 @@ loop-j-again c =
     let n = c .loop-j .n in
     let n' = c .if-lead-row-of-rows .n in
     let w : ((r ≡ rows) × (n' ≡ n + 1)) ⊎ ((r ≡ rows → ⊥) × (n' ≡ n)) =
-        elim (c .if-lead-row-of-rows .came) [
-          then-lead-row-of-rows w ↦ inl (w .if-lead-row-of-rows .taken, w .n-is)
-        | else-lead-row-of-rows w ↦ inr (w .if-lead-row-of-rows .left, w .n-is) ] in
+    elim (c .if-lead-row-of-rows .came) [
+      | then-lead-row-of-rows w ↦ inl (w .if-lead-row-of-rows .taken, w .n-is)
+      | else-lead-row-of-rows w ↦ inr (w .if-lead-row-of-rows .left, w .n-is)
+    ] in
     count-more rows (matrix (c .args .columns) (c .args .blocks .now) (c .args .base)) (c .loop-j .j) r n n' (c .lead-row-of .ensures)
-      (c .loop-j .inv .0) (c .loop-j .inv .1) w
+    (c .loop-j .inv .0) (c .loop-j .inv .1) w

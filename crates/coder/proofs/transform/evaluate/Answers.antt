@@ -20,7 +20,7 @@ pub loop-t-holds : need.loop-t-holds
 loop-t-holds g c = λ j h.
     c .loop-sum .inv j (omega arith)
     ∙ horner-none (g .F·Field .meaning (c .args .f .now)) (g .F·Field·met .lawful (c .args .f .now)) (c .args .x) (c .args .rows)
-      (λ t. coefficient (length (c .loop-sum .sums)) (c .args .work .now) j (c .args .rows + t))
+    (λ t. coefficient (length (c .loop-sum .sums)) (c .args .work .now) j (c .args .rows + t))
 
 pub loop-t-again : need.loop-t-again
 loop-t-again g c = λ j h.
@@ -30,17 +30,17 @@ loop-t-again g c = λ j h.
     let start = c .row-start-start .result in
     let i = c .loop-t .t in
     let l : start + columns ≤ length work =
-        omega (arith, c .row-start-start .ensures .fits, ap (λ (n : ℕ). c .args .rows * n) (c .loop-sum .kept .sums)) in
+    omega (arith, c .row-start-start .ensures .fits, ap (λ (n : ℕ). c .args .rows * n) (c .loop-sum .kept .sums)) in
     horner-more m (g .F·Field·met .lawful (c .args .f .now)) (c .args .x) (c .args .rows) i (λ t. coefficient columns work j t)
-      (getD (c .loop-t .sums) j 0) (getD (c .step-row .last .sums) j 0) (c .loop-t-test .taken) (c .loop-t .kept .t)
-      (c .loop-t .inv j h)
-      (c .step-row .ensures j (omega (arith, part-length start columns work l))
-        ∙ ap (λ (y : ℕ). m .sum y (m .product (c .args .x) (getD (c .loop-t .sums) j 0)))
-          (part-read start columns work j h ∙ ap (λ (k : ℕ). getD work (k + j) 0) (c .row-start-start .ensures .is)))
+    (getD (c .loop-t .sums) j 0) (getD (c .step-row .last .sums) j 0) (c .loop-t-test .taken) (c .loop-t .kept .t)
+    (c .loop-t .inv j h)
+    (c .step-row .ensures j (omega (arith, part-length start columns work l))
+    ∙ ap (λ (y : ℕ). m .sum y (m .product (c .args .x) (getD (c .loop-t .sums) j 0)))
+    (part-read start columns work j h ∙ ap (λ (k : ℕ). getD work (k + j) 0) (c .row-start-start .ensures .is)))
 
 pub returns : need.returns
 returns g c = λ j h.
     horner-all (g .F·Field .meaning (c .args .f .now)) (g .F·Field·met .lawful (c .args .f .now)) (c .args .x) (c .args .rows) (c .loop-t .t)
-      (λ t. coefficient (length (c .loop-sum .sums)) (c .args .work .now) j t) (getD (c .loop-t .sums) j 0) (c .loop-t-test .left)
-      (c .loop-t .inv j (omega arith))
+    (λ t. coefficient (length (c .loop-sum .sums)) (c .args .work .now) j t) (getD (c .loop-t .sums) j 0) (c .loop-t-test .left)
+    (c .loop-t .inv j (omega arith))
     ∙ ap (λ (n : ℕ). value (g .F·Field .meaning (c .args .f .now)) (c .args .rows) (coefficient n (c .args .work .now) j) (c .args .x)) (c .loop-sum .kept .sums)

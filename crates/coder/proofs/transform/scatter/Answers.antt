@@ -16,4 +16,4 @@ loop-j-again c =
     let is : c .symbol-place-at .result ≡ j * e + l = c .symbol-place-at .ensures .is in
     let room : j * e + l < length (c .loop-j .out) = omega (arith, c .symbol-place-at .ensures .within) in
     subst (λ (i : ℕ). WrittenTo n e l v (c .args .out .now) (set (c .loop-j .out) i (v j)) (j + 1)) (sym is)
-      (written-more n e l j v (c .args .out .now) (c .loop-j .out) (c .pre .symbol) (c .loop-j-test .taken) room (c .loop-j .inv))
+    (written-more n e l j v (c .args .out .now) (c .loop-j .out) (c .pre .symbol) (c .loop-j-test .taken) room (c .loop-j .inv))

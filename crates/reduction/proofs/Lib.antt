@@ -1,0 +1,5 @@
+pub mod Places
+pub mod Clearings
+pub mod Eliminations
+pub mod Columns
+pub mod Parts
