@@ -20,7 +20,7 @@ fn symbol_at(xs: &[Symbol], k: usize) -> Symbol
 }
 
 // The message symbols from `first` on, one for each free column of a block, and 0 in the leading columns.
-fn spread_free(
+pub(crate) fn spread_free(
     blocks: &[Symbol],
     base: usize,
     rows: usize,
@@ -74,7 +74,7 @@ fn row_times<F: Field>(
 }
 
 // The solution of a block that has the given symbols in its free columns.
-fn solve<F: Field>(
+pub(crate) fn solve<F: Field>(
     f: &F,
     blocks: &[Symbol],
     base: usize,

@@ -1,4 +1,7 @@
 // Encoding and recovery through the echelon forms of the check blocks.
+mod encoding;
 mod fill;
 mod forms;
 mod transform;
+
+pub use encoding::encode;

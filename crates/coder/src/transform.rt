@@ -22,7 +22,7 @@ fn step_row<F: Field>(f: &F, sums: &mut [Symbol], row: &[Symbol], x: Symbol)
 }
 
 // Where row `t` of a buffer of rows starts.
-fn row_start(rows: usize, columns: usize, t: usize) -> usize
+pub(crate) fn row_start(rows: usize, columns: usize, t: usize) -> usize
     requires few { ⌜ rows * columns < 2 ^ 64 ⌝ }
     requires within { ⌜ t < rows ⌝ }
     ensures is { λ r. ⌜ r ≡ t * columns ⌝ }
@@ -73,7 +73,13 @@ fn scatter(sums: &[Symbol], out: &mut [Symbol], size: usize, l: usize)
 }
 
 // The inverse transform of every column: from the spectrum, frequency by frequency in `work`, to the word in `out`.
-fn synthesize<F: Field>(f: &F, shape: &Shape, alpha: Symbol, work: &[Symbol], out: &mut [Symbol])
+pub(crate) fn synthesize<F: Field>(
+    f: &F,
+    shape: &Shape,
+    alpha: Symbol,
+    work: &[Symbol],
+    out: &mut [Symbol],
+)
     requires root { ⌜ alpha ≡ root-of (F·Field .meaning (now f)) (now shape .size) ⌝ }
     requires sized { ⌜ length (now work) ≡ now shape .size * now shape .columns ⌝ }
     requires room { ⌜ now shape .columns * now shape .size ≤ length (now out) ⌝ }

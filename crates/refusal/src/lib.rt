@@ -19,6 +19,8 @@ pub enum Refusal {
     Length = 8,
     // a symbol of a message or a word is q or more
     Symbol = 9,
+    // a buffer for the answer, or for working, is too short
+    Room = 10,
     // the degree of a shift field is not from 2 to 9
     Degree = 16,
 }
@@ -41,6 +43,7 @@ impl Refusal {
                 "a cell has 0 to 4 terms, shifts 0 to 511 strictly rising, coefficients 1 to 511 below q",
             Refusal::Length => "wrong number of symbols",
             Refusal::Symbol => "a symbol is q or more",
+            Refusal::Room => "the buffer for the answer or for working is too short",
             Refusal::Degree => "the degree is not from 2 to 9",
         }
     }
