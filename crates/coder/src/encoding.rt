@@ -9,6 +9,9 @@ ghost use Rattle.array.specs.declared.plain.CellRow.{CellRow};
 ghost use Rattle.blocks.specs.Blocks.{block-at, Holds};
 ghost use Rattle.code.specs.Checks.{PassesAll};
 ghost use Rattle.coder.specs.Columns.{coefficient};
+ghost use Rattle.std.specs.Results.{Cases};
+ghost use Rattle.refusal.specs.declared.Refusal.the-variants.{Buffer};
+ghost use Rattle.coder.specs.Forms.{dimension as dimension-of};
 ghost use Rattle.coder.specs.Encoding.{spread, encoded, Encodable};
 use super::fill::solve;
 use super::fill::spread_free;
@@ -162,4 +165,18 @@ pub fn encode<F: Field>(
     fill_spectrum(f, shape, blocks, message, &mut work[0..length]);
     synthesize(f, shape, root(f, shape), &work[0..length], out);
     Ok(())
+}
+
+// The dimension of the code whose echelon forms stand in `blocks`. Refuses with Buffer where there are fewer than 16,384 symbols.
+pub fn dimension(shape: &Shape, blocks: &[Symbol]) -> Result<usize, Refusal>
+    ensures { λ r.
+        let s = now (shape .entry) in
+        ⌜ Cases r
+        (λ n. (16384 ≤ length (now (blocks .entry))) × (n ≡ dimension-of (s .rows) (s .columns) (s .size) (now (blocks .entry))))
+        (λ x. (length (now (blocks .entry)) < 16384) × (x ≡ Buffer)) ⌝ }
+{
+    if blocks.len() < 16384 {
+        return Err(Refusal::Buffer);
+    }
+    Ok(count_dimension(shape, blocks))
 }

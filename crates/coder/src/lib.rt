@@ -4,4 +4,5 @@ mod fill;
 mod forms;
 mod transform;
 
+pub use encoding::dimension;
 pub use encoding::encode;

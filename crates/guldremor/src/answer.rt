@@ -2,18 +2,26 @@
 use array::Cell;
 use array::CellRow;
 use code::Verdict;
+use field::Symbol;
 use refusal::Refusal;
 use refusal::RefusalDisplay;
 use std::alloc::AllocError;
 use std::alloc::Refused;
 use std::fmt;
 
-#[derive(Clone, Copy)]
+#[derive(Drop)]
 pub enum Answer {
     Field(u16),
     Done,
     Cell(CellRow),
     Verdict(Verdict),
+    Word(Vec<Symbol>),
+    Size {
+        size: usize,
+        rows: usize,
+        columns: usize,
+        dimension: usize,
+    },
 }
 
 #[derive(Drop)]
@@ -59,6 +67,19 @@ pub impl fmt::Display for Answer as AnswerDisplay {
                 }
                 Ok(())
             }
+            Answer::Word(word) => {
+                write!(f, "word")?;
+                for symbol in word {
+                    write!(f, " {symbol}")?;
+                }
+                Ok(())
+            }
+            Answer::Size {
+                size,
+                rows,
+                columns,
+                dimension,
+            } => write!(f, "size {size} {rows} {columns} {dimension}"),
             Answer::Verdict(Verdict::Passes) => write!(f, "passes"),
             Answer::Verdict(Verdict::Fails { row, s, syndrome }) => write!(
                 f,

@@ -25,6 +25,8 @@ pub fn make<'a>(
         "place" => place_cell(session, words),
         "show" => show_cell(session, words),
         "check" => check_word(session, words),
+        "encode" => encode_message(session, words),
+        "size" => show_size(session, words),
         _ => Err(Trouble::Word("no such command", name)),
     }
 }
@@ -93,4 +95,31 @@ fn check_word<'a>(session: &Session, words: SplitWhitespace<'a>) -> Result<Answe
         word.push(read_symbol(symbol)?)?;
     }
     Ok(Answer::Verdict(session.check(word.as_slice())?))
+}
+
+// encode SYMBOL ..
+fn encode_message<'a>(
+    session: &mut Session,
+    words: SplitWhitespace<'a>,
+) -> Result<Answer, Trouble<'a>> {
+    let mut message = Vec::new(session.heap());
+    for symbol in words {
+        message.push(read_symbol(symbol)?)?;
+    }
+    Ok(Answer::Word(session.encode(message.as_slice())?))
+}
+
+// size
+fn show_size<'a>(
+    session: &mut Session,
+    mut words: SplitWhitespace<'a>,
+) -> Result<Answer, Trouble<'a>> {
+    expect_end(&mut words)?;
+    let (size, rows, columns, dimension) = session.dimension()?;
+    Ok(Answer::Size {
+        size,
+        rows,
+        columns,
+        dimension,
+    })
 }
