@@ -7,7 +7,6 @@ use super::session::Chosen;
 use super::session::Session;
 use super::words::expect_end;
 use super::words::next_number;
-use super::words::read_number;
 use super::words::read_symbol;
 use super::words::read_term;
 use field::ShiftField;

@@ -140,6 +140,9 @@ impl Session {
             let d = now (self .entry) in
             ⌜ made r (λ c. (s : Shape) × (d .shape ≡ Some s) × (c ≡ normal (cell-at (s .columns) (vec-items (d .cells)) row column))) ⌝ }
     {
+        if self.field.is_none() {
+            return Err(Trouble::Line(NO_FIELD));
+        }
         let Some(shape) = self.shape else {
             return Err(Trouble::Line(NO_ARRAY));
         };

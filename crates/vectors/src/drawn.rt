@@ -130,17 +130,15 @@ fn print_array<F: Field>(
 }
 
 // What the source starts from, a degree, the sizes of an array, and a word that passes.
-const ARRAYS: [(u32, u8, (u16, u16, u16), &[Symbol]); 10] = [
+const ARRAYS: [(u32, u8, (u16, u16, u16), &[Symbol]); 8] = [
     (1001, 2, (3, 2, 4), &passing::WORD_2_3),
     (1002, 2, (1, 3, 5), &passing::WORD_2_1),
     (1003, 3, (7, 2, 4), &passing::WORD_3_7),
     (1004, 4, (5, 2, 4), &passing::WORD_4_5),
-    (1005, 4, (15, 2, 3), &passing::WORD_4_15),
-    (1006, 5, (31, 2, 3), &passing::WORD_5_31),
-    (1007, 6, (9, 3, 5), &passing::WORD_6_9),
-    (1008, 6, (21, 2, 3), &passing::WORD_6_21),
-    (1009, 7, (127, 1, 2), &passing::WORD_7_127),
-    (1010, 8, (17, 2, 4), &passing::WORD_8_17),
+    (1005, 5, (31, 1, 2), &passing::WORD_5_31),
+    (1006, 6, (9, 2, 4), &passing::WORD_6_9),
+    (1007, 7, (1, 2, 5), &passing::WORD_7_1),
+    (1008, 8, (17, 2, 3), &passing::WORD_8_17),
 ];
 
 pub fn print_drawn(rt: &LibcRuntime) -> Result<(), AnyError> {
@@ -148,6 +146,5 @@ pub fn print_drawn(rt: &LibcRuntime) -> Result<(), AnyError> {
     for (seed, degree, sizes, word) in ARRAYS {
         print_array(rt, &shift_field(degree)?, seed, sizes, word)?;
     }
-    print_array(rt, &TableField, 1011, (7, 3, 6), &passing::WORD_9_7)?;
-    print_array(rt, &TableField, 1012, (73, 2, 3), &passing::WORD_9_73)
+    print_array(rt, &TableField, 1009, (7, 3, 6), &passing::WORD_9_7)
 }

@@ -29,7 +29,7 @@ fn fill_inverses<F: Field>(f: &F, inverses: &mut [Symbol]) {
 
 // One number more in a digest.
 fn mix(digest: u16, x: u16) -> u16 {
-    digest.wrapping_mul(31).wrapping_add(x)
+    ((digest as u32 * 31 + x as u32) % 65521) as u16
 }
 
 // Of a + b, for a from 0 to q - 1 and for each a b from 0 to q - 1.

@@ -25,8 +25,7 @@ fn print_arrays(rt: &LibcRuntime) -> Result<(), AnyError> {
     cells::print_fills(rt)?;
     cells::print_rows(rt)?;
     shapes::print_shapes(rt)?;
-    places::print_places(rt)?;
-    places::print_marks(rt)
+    places::print_places(rt)
 }
 
 fn print_checks(rt: &LibcRuntime) -> Result<(), AnyError> {

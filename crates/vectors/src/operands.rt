@@ -65,11 +65,8 @@ pub fn print_pairs(rt: &LibcRuntime) -> Result<(), AnyError> {
     rt.println("== operands: q, a, b: a + b, a x b, 1 / a; an operand of q or more is taken as 0")?;
     for (degree, a, b) in PAIRS {
         print_pair(rt, "shift", &shift_field(degree)?, a, b)?;
-        if degree == 9 {
-            print_pair(rt, "table", &TableField, a, b)?;
-        }
     }
-    Ok(())
+    print_pair(rt, "table", &TableField, 256, 2)
 }
 
 const DEGREES: [u8; 6] = [0, 1, 2, 9, 10, 255];

@@ -4,7 +4,6 @@ use super::board::board_of;
 use super::lines::accepted;
 use super::lines::answer_of;
 use super::lines::print_answer;
-use super::lines::print_numbers;
 use super::lines::print_terms;
 use array::Cell;
 use array::Term;
@@ -88,63 +87,4 @@ pub fn print_places(rt: &LibcRuntime) -> Result<(), AnyError> {
         print_place(rt, count, row, column, last)?;
     }
     Ok(())
-}
-
-// A term for each place of an array.
-fn mark(row: usize, column: usize) -> Term {
-    Term {
-        shift: (row % 512) as u16,
-        coefficient: (column % 511) as u16 + 1,
-    }
-}
-
-fn mark_all(board: &mut Board) -> Result<(), AnyError> {
-    let shape = board.shape();
-    for row in 0..shape.rows() {
-        for column in 0..shape.columns() {
-            board.put(row, column, &[mark(row, column)])?;
-        }
-    }
-    Ok(())
-}
-
-// Does a place hold its mark and nothing else?
-fn is_marked(board: &Board, row: usize, column: usize) -> bool {
-    let mut cell = Cell::empty();
-    let answer = board.show(row, column, &mut cell);
-    let Term { shift, coefficient } = mark(row, column);
-    match cell.terms() {
-        [term] => answer.is_ok() && term.shift == shift && term.coefficient == coefficient,
-        _ => false,
-    }
-}
-
-fn count_marks(board: &Board) -> u16 {
-    let shape = board.shape();
-    let mut count: u16 = 0;
-    for row in 0..shape.rows() {
-        for column in 0..shape.columns() {
-            if is_marked(board, row, column) {
-                count = count.saturating_add(1);
-            }
-        }
-    }
-    count
-}
-
-fn print_marked(rt: &LibcRuntime, rows: u16, columns: u16) -> Result<(), AnyError> {
-    let mut board = board_of(512, (1, rows as usize, columns as usize), 512)?;
-    mark_all(&mut board)?;
-    print_numbers(
-        rt,
-        "rows, columns",
-        &[rows, columns],
-        &[count_marks(&board)],
-    )
-}
-
-pub fn print_marks(rt: &LibcRuntime) -> Result<(), AnyError> {
-    rt.println("== another cell at every place: how many are found where they were placed")?;
-    print_marked(rt, 3, 5)?;
-    print_marked(rt, 8, 64)
 }
