@@ -1,5 +1,8 @@
 // What follows from the laws of a field alone. There is no program here: a theorem is asked for only where a contract names it,
 // so each theorem stands on the contract of a function that does nothing else.
+
+#![tactic(auto)]
+
 ghost use Rattle.algebra.specs.Transforms.{RootHasOrder, TransformPair, Convolution, PassingIsNull, GeneratorByTerms};
 
 mod matrices;

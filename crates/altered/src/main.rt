@@ -1,4 +1,7 @@
 // Buffers that another hand altered between the calls of an editor: each call still ends, and refuses or answers as its contract says.
+
+#![tactic(auto)]
+
 mod held;
 
 use code::Verdict;

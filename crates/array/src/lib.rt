@@ -1,5 +1,8 @@
 // Arrays of circulants: terms, cells, plain rows, the shape of an array, and a buffer of cells.
 // No field is here: where a rule speaks of q, q is a number.
+
+#![tactic(auto)]
+
 mod buffer;
 mod cell;
 mod plain;

@@ -1,4 +1,7 @@
 // The check blocks of an array at a circulant size: one for each frequency of the transform.
+
+#![tactic(auto)]
+
 mod build;
 mod forms;
 mod powers;

@@ -1,4 +1,7 @@
 // Quasi-cyclic codes drawn by an array of circulants: generic over every field, over buffers that the caller lends.
+
+#![tactic(auto)]
+
 mod receiver;
 
 pub use receiver::{Verdict, are_symbols, check};

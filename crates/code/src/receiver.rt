@@ -2,7 +2,7 @@
 ghost use Rattle.std.specs.Prelude.{◌≡◌, ℕ, ◌+◌, ◌-◌, ◌*◌, ◌%◌, ◌<◌, ◌≤◌, length, Some, None, MatchOption, MatchResult, ◌≢◌, slice_index};
 ghost use Rattle.array.specs.Buffers.{cell_at};
 ghost use Rattle.array.specs.Cells.{normal};
-ghost use Rattle.code.specs.Checks.{cell_sum, syndrome, symbols_below, check_refusal, Checked, Answered};
+ghost use Rattle.code.specs.Checks.{cell_sum, syndrome, symbols_below, check_refusal, Judged, Checked, Answered};
 
 use array::{Cell, CellRow, Shape, Term};
 use field::{Field, Symbol};
@@ -161,8 +161,8 @@ pub fn are_symbols(xs: &[Symbol], order: u16) -> bool
 
 // Refuses with Buffer, Length, then Symbol.
 fn judge(order: u16, shape: &Shape, cells: usize, word: &[Symbol]) -> Result<(), Refusal>
-    ensures { let s = shape.now in
-        let answer = check_refusal order s.size s.columns cells word.now in
+    ensures judged { Judged order shape.now.size shape.now.columns cells word.now result }
+    ensures answered { let answer = check_refusal order shape.now.size shape.now.columns cells word.now in
         MatchResult result (λ _. answer ≡ None) (λ x. answer ≡ Some x) }
 {
     if cells < 512 {

@@ -1,4 +1,7 @@
 // Encoding and recovery through the echelon forms of the check blocks.
+
+#![tactic(auto)]
+
 mod encoding;
 mod fill;
 mod forms;

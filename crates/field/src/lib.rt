@@ -1,4 +1,7 @@
 // Finite fields: the interface that everything above is written against, and two implementations of it.
+
+#![tactic(auto)]
+
 mod interface;
 mod shift;
 mod table;

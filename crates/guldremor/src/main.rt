@@ -1,4 +1,7 @@
 // guldremor: reads a script from standard input, a command a line, and prints one answer line for each.
+
+#![tactic(auto)]
+
 mod answer;
 mod commands;
 mod session;

@@ -1,4 +1,7 @@
 // Why a call refuses. Every crate of the library refuses with one of these, and each has a fixed number.
+
+#![tactic(auto)]
+
 ghost use Rattle.std.specs.Prelude.{◌≡◌};
 ghost use Rattle.refusal.specs.Number.{number};
 

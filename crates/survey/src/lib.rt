@@ -1,4 +1,7 @@
 // What one drawing gives at one circulant size.
+
+#![tactic(auto)]
+
 ghost use Rattle.std.specs.Prelude.{◌≡◌, ℕ, ◌*◌, ◌<◌, ◌≤◌, length, Some, None, MatchResult, slice_index};
 ghost use Rattle.survey.specs.Surveys.{survey_refusal, Surveyed};
 

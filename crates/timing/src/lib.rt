@@ -1,5 +1,8 @@
 // Entry points for C, through which the library is timed beside the same loops in C.
 // A field goes by a number: 0 for the table field, r for the shift field of degree r. The answer is 0, or the number of the refusal.
+
+#![tactic(auto)]
+
 mod calls;
 mod entries;
 

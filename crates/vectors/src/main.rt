@@ -1,5 +1,7 @@
 // vectors: runs published tables and worked cases through the library, and prints what it answers.
 
+#![tactic(auto)]
+
 mod board;
 mod built;
 mod cells;

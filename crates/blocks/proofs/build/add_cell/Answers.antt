@@ -21,5 +21,5 @@ loop-term-preserved g c =
     let ts = c.args.terms.now in
     let u : ℕ → ℕ → ℕ = λ i t. m.product (get_or ts i no_term).coefficient (power m (root m e) (((get_or ts i no_term).shift % e) * t)) in
     added_join m (g.met.F.Field.lawful c.args.f.now) (s.rows * s.columns) e c.args.k
-    (λ t. total m n (λ i. u i t)) (u n) (λ t. total m (n + 1) (λ i. u i t)) c.args.blocks.now c.loop-term.blocks c.add-term.new.blocks
-    (λ t. total_more m n (λ i. u i t)) c.loop-term.invariant c.add-term.ensures
+    (λ t. total m n (λ i. u i t)) (u n) (λ t. total m (n + 1) (λ i. u i t)) c.args.blocks.now c.loop-term.blocks c.add_term.new.blocks
+    (λ t. total_more m n (λ i. u i t)) c.loop-term.invariant c.add_term.ensures

@@ -9,8 +9,8 @@ loop-t-init g c =
     let m = g.F.Field.meaning c.args.f.now in
     let s = c.args.shape.now in
     let p = c.product-p.result in (
-      added_none m (s.rows * s.columns) s.size c.args.k (λ t. m.product p (power m c.power-of-step.result t)) c.args.blocks.now,
-      term_first m (g.met.F.Field.lawful c.args.f.now) c.args.term.coefficient p c.power-of-step.result c.product-p.ensures,
+      added_none m (s.rows * s.columns) s.size c.args.k (λ t. m.product p (power m c.power_of-step.result t)) c.args.blocks.now,
+      term_first m (g.met.F.Field.lawful c.args.f.now) c.args.term.coefficient p c.power_of-step.result c.product-p.ensures,
     )
 
 pub loop-t-preserved : goal.loop-t-preserved
@@ -19,13 +19,13 @@ loop-t-preserved g c =
     let s = c.args.shape.now in
     let n = s.rows * s.columns in
     let p = c.product-p.result in
-    let step = c.power-of-step.result in
+    let step = c.power_of-step.result in
     let t = c.loop-t.t in
     let k = c.args.k in
-    let at = c.entry-place-at.result in
+    let at = c.entry_place-at.result in
     let v : ℕ → ℕ = λ t. m.product p (power m step t) in
-    let e : at ≡ t * n + k = c.entry-place-at.ensures.is in
-    let room : t * n + k < length c.loop-t.blocks = omega (arith, c.entry-place-at.ensures.within) in (
+    let e : at ≡ t * n + k = c.entry_place-at.ensures.is in
+    let room : t * n + k < length c.loop-t.blocks = omega (arith, c.entry_place-at.ensures.within) in (
       subst (λ (i : ℕ). AddedTo m n s.size k v c.args.blocks.now (set c.loop-t.blocks i c.sum.result) (t + 1)) (sym e)
           (added_more m n s.size k t v c.args.blocks.now c.loop-t.blocks c.loop-t.p c.sum.result c.requires.place (omega arith) room
           (c.sum.ensures ∙ ap (λ (i : ℕ). m.sum (get_or c.loop-t.blocks i 0) c.loop-t.p) e) c.loop-t.invariant.1 c.loop-t.invariant.0),
@@ -39,10 +39,10 @@ returns g c =
     let s = c.args.shape.now in
     let n = s.rows * s.columns in
     let p = c.product-p.result in
-    let step = c.power-of-step.result in
+    let step = c.power_of-step.result in
     let shift = c.args.term.shift in
     let es : step ≡ power m (root m s.size) (shift % s.size) =
-    c.power-of-step.ensures ∙ ap (λ (x : ℕ). power m x (shift % c.size.result)) c.requires.root
+    c.power_of-step.ensures ∙ ap (λ (x : ℕ). power m x (shift % c.size.result)) c.requires.root
     ∙ ap (λ (x : ℕ). power m (root m s.size) (shift % x)) c.size.ensures in
     added_like m n s.size c.args.k (λ t. m.product p (power m step t))
     (λ t. m.product c.args.term.coefficient (power m (root m s.size) ((shift % s.size) * t)))

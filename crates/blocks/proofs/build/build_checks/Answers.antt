@@ -14,8 +14,8 @@ loop-k-init g c =
           c.used.ensures.is c.clear.ensures.cleared (λ i h. refl),
     )
 
-pub add-cell-requires : goal.add-cell-requires
-add-cell-requires g c =
+pub add_cell-requires : goal.add_cell-requires
+add_cell-requires g c =
     let m = g.F.Field.meaning c.args.f.now in
     let place : c.loop-k.k < c.args.shape.now.rows * c.args.shape.now.columns = omega (arith, c.places-k-end.ensures.is) in
     record {
@@ -33,10 +33,10 @@ loop-k-preserved g c =
     let k = c.loop-k.k in (
       c.root-alpha.ensures,
       built_more (g.F.Field.meaning c.args.f.now) (g.met.F.Field.lawful c.args.f.now) (s.rows * s.columns) s.size k c.args.cells.now
-          c.terms.result.now c.clear.new.blocks c.loop-k.blocks c.add-cell.new.blocks
+          c.terms.result.now c.clear.new.blocks c.loop-k.blocks c.add_cell.new.blocks
           (omega (arith, c.places-k-end.ensures.is))
-          (c.terms.ensures ∙ ap (λ (r : CellRow). take r.count r.terms) c.of-row-cell.ensures ∙ terms_normal (get_or c.args.cells.now k blank))
-          c.loop-k.invariant.1 c.add-cell.ensures,
+          (c.terms.ensures ∙ ap (λ (r : CellRow). take r.count r.terms) c.of_row-cell.ensures ∙ terms_normal (get_or c.args.cells.now k blank))
+          c.loop-k.invariant.1 c.add_cell.ensures,
     )
 
 pub returns : goal.returns

@@ -8,6 +8,6 @@ returns g c =
     let n = length c.args.column.now in
     let first = c.args.term.shift % n in
     term_added m.sum m.product n first (n - first) c.args.term.shift c.args.term.coefficient
-    c.args.sums.now c.args.column.now c.add-scaled.new.sums c.add-scaled-2.new.sums
-    c.requires.some refl refl c.requires.sized refl c.add-scaled.auto.sums c.add-scaled-2.auto.sums
-    c.add-scaled.ensures c.add-scaled-2.ensures
+    c.args.sums.now c.args.column.now c.add_scaled.new.sums c.add_scaled-2.new.sums
+    c.requires.some refl refl c.requires.sized refl c.add_scaled.auto.sums c.add_scaled-2.auto.sums
+    c.add_scaled.ensures c.add_scaled-2.ensures

@@ -8,8 +8,8 @@ loop-row-preserved g c =
     let f = g.F.Field.meaning c.args.f.now in
     let s = c.args.shape.now in
     let Zero : ℕ → Type 0 = λ h. (k : ℕ) → k < s.size → syndrome f s.size s.columns c.args.cells.now c.args.word.now h k ≡ 0 in
-    let len : length c.row-syndromes.new.sums ≡ s.size = search (rules, places) in (
+    let len : length c.row_syndromes.new.sums ≡ s.size = search (rules, places) in (
       search (rules, places),
       λ h k l m. below_more Zero c.loop-row.row (λ h' l' k' m'. c.loop-row.invariant.1 h' k' l' m')
-          (λ k' m'. sym (c.row-syndromes.ensures k' m') ∙ c.in-default.ensures k' (omega arith)) h l k m,
+          (λ k' m'. sym (c.row_syndromes.ensures k' m') ∙ c.in_default.ensures k' (omega arith)) h l k m,
     )

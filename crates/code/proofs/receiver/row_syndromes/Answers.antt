@@ -15,14 +15,14 @@ loop-sum-preserved g c =
     (λ k h. let ne : k ≢ c.loop-sum.sum-index = omega arith in rw get_or-set_other (c.loop-sum.invariant k h))
     (let lt : c.loop-sum.sum-index < length c.loop-sum.sums = omega arith in rw get_or-set_same)
 
-pub add-cell-requires : goal.add-cell-requires
-add-cell-requires g c =
+pub add_cell-requires : goal.add_cell-requires
+add_cell-requires g c =
     let f = g.F.Field.meaning c.args.f.now in
     record {
-      sized = omega (arith, c.column-of-column.ensures.len);
-      some = omega (arith, c.column-of-column.ensures.len);
+      sized = omega (arith, c.column_of-column.ensures.len);
+      some = omega (arith, c.column_of-column.ensures.len);
       symbols = λ s h.
-          subst (λ (x : ℕ). x < f.q) (sym (c.loop-j.invariant s (omega (arith, c.column-of-column.ensures.len))))
+          subst (λ (x : ℕ). x < f.q) (sym (c.loop-j.invariant s (omega (arith, c.column_of-column.ensures.len))))
           (total_below f (g.met.F.Field.lawful c.args.f.now) c.loop-j.j _);
     }
 
@@ -31,13 +31,13 @@ loop-j-preserved g c = λ s h.
     let f = g.F.Field.meaning c.args.f.now in
     let e = c.args.shape.now.size in
     let row = cell_at c.args.shape.now.columns c.args.cells.now c.args.row c.loop-j.j in
-    let len = c.column-of-column.ensures.len in
+    let len = c.column_of-column.ensures.len in
     row_more f (g.met.F.Field.lawful c.args.f.now) e c.loop-j.j
     (λ j. cell_sum f e (terms_of (cell_at c.args.shape.now.columns c.args.cells.now c.args.row j)) (λ k. get_or c.args.word.now (j * e + k) 0) s)
-    c.terms.result.now (terms_of row) (λ l. get_or c.column-of-column.result.now l 0) (λ k. get_or c.args.word.now (c.loop-j.j * e + k) 0)
-    s (get_or c.loop-j.sums s 0) (get_or c.add-cell.new.sums s 0) (omega arith)
+    c.terms.result.now (terms_of row) (λ l. get_or c.column_of-column.result.now l 0) (λ k. get_or c.args.word.now (c.loop-j.j * e + k) 0)
+    s (get_or c.loop-j.sums s 0) (get_or c.add_cell.new.sums s 0) (omega arith)
     (c.loop-j.invariant s h)
-    (c.terms.ensures ∙ ap (λ (r : CellRow). take r.count r.terms) c.cell-of-cell.ensures ∙ terms_normal row)
-    c.column-of-column.ensures.symbols refl
-    (c.add-cell.ensures s (omega arith)
-    ∙ ap (λ (n : ℕ). f.sum (get_or c.loop-j.sums s 0) (cell_sum f n c.terms.result.now (λ l. get_or c.column-of-column.result.now l 0) s)) len)
+    (c.terms.ensures ∙ ap (λ (r : CellRow). take r.count r.terms) c.cell_of-cell.ensures ∙ terms_normal row)
+    c.column_of-column.ensures.symbols refl
+    (c.add_cell.ensures s (omega arith)
+    ∙ ap (λ (n : ℕ). f.sum (get_or c.loop-j.sums s 0) (cell_sum f n c.terms.result.now (λ l. get_or c.column_of-column.result.now l 0) s)) len)

@@ -11,9 +11,9 @@ returns-then-a-eq0 c =
 
 pub returns : goal.returns
 returns c =
-    let k = c.logarithm-of-k.result in
+    let k = c.logarithm_of-k.result in
     let n = c.if-k-eq0.power_at in
     let w : (n + k ≡ 511) ⊎ ((n ≡ 0) × (k ≡ 0)) =
-    elim c.if-k-eq0.branch [ then-k-eq0 w ↦ inr (omega (arith, w.power-at-is), omega arith) | else-k-eq0 w ↦ inl (omega (arith, w.power-at-is)) ] in
-    c.power-at.ensures
-    ∙ inverse_by_exponent k c.args.a n c.logarithm-of-k.ensures.is.1 c.logarithm-of-k.ensures.is.0 w
+    elim c.if-k-eq0.branch [ then-k-eq0 w ↦ inr (omega (arith, w.power_at-is), omega arith) | else-k-eq0 w ↦ inl (omega (arith, w.power_at-is)) ] in
+    c.power_at.ensures
+    ∙ inverse_by_exponent k c.args.a n c.logarithm_of-k.ensures.is.1 c.logarithm_of-k.ensures.is.0 w

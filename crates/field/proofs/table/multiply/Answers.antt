@@ -12,10 +12,10 @@ returns-then-a-eq0 c =
 
 pub returns : goal.returns
 returns c =
-    let i = c.logarithm-of.result in
-    let j = c.logarithm-of-2.result in
+    let i = c.logarithm_of.result in
+    let j = c.logarithm_of-2.result in
     let k = c.if-k-lt511.power_at in
     let w : (k ≡ i + j) ⊎ (k + 511 ≡ i + j) =
-    elim c.if-k-lt511.branch [ then-k-lt511 w ↦ inl (omega (arith, w.power-at-is)) | else-k-lt511 w ↦ inr (omega (arith, w.power-at-is)) ] in
-    c.power-at.ensures
-    ∙ product_by_exponents i j c.args.a c.args.b k c.logarithm-of.ensures.is.1 c.logarithm-of-2.ensures.is.1 w
+    elim c.if-k-lt511.branch [ then-k-lt511 w ↦ inl (omega (arith, w.power_at-is)) | else-k-lt511 w ↦ inr (omega (arith, w.power_at-is)) ] in
+    c.power_at.ensures
+    ∙ product_by_exponents i j c.args.a c.args.b k c.logarithm_of.ensures.is.1 c.logarithm_of-2.ensures.is.1 w

@@ -13,12 +13,12 @@ or_err : {X : Type 0} (a : Result X Refusal) (z : Refusal) (P P' : X → Type 0)
 or_err (Ok x) z P P' Q Q' h f g = f x h
 or_err (Err y) z P P' Q Q' h f g = g y h
 
-pub returns-in-default-locate : goal.returns-in-default-locate
+pub returns-in_default-locate : goal.returns-in_default-locate
 unfolding record_fits
-returns-in-default-locate c =
-    let e = c.in-default-locate.ensures in
+returns-in_default-locate c =
+    let e = c.in_default-locate.ensures in
     let t = terms_normal c.args.row in
-    let u = sound_terms c.of-row-cell.result.row c.of-row-cell.result.keeps in
+    let u = sound_terms c.of_row-cell.result.row c.of_row-cell.result.keeps in
     grind (arith, nat_tests)
 
 pub returns-in-Ok : goal.returns-in-Ok
@@ -31,6 +31,6 @@ returns-in-2 c =
     rw c.or.ensures
     (or_err c.new.result Record _ _ _ _ c.new.ensures (λ s h. grind (arith, nat_tests)) (λ x h. grind (arith, nat_tests)))
 
-pub returns-in-default : goal.returns-in-default
+pub returns-in_default : goal.returns-in_default
 unfolding record_fits
-returns-in-default c = grind (arith, nat_tests)
+returns-in_default c = grind (arith, nat_tests)

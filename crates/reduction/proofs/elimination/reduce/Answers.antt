@@ -12,6 +12,6 @@ eliminate-requires g c =
           block_entries _ c.args.rows c.args.columns xs
           (record {
             sized = sized;
-            symbols = λ k l. subst (λ (q : ℕ). get_or xs k 0 < q) c.order.ensures (c.if-not-are-below.ensures k l);
+            symbols = λ k l. subst (λ (q : ℕ). get_or xs k 0 < q) c.order.ensures (c.if-not-are_below.ensures k l);
           });
     }

@@ -3,20 +3,20 @@ use Rattle.reduction.specs.Blocks.{at}
 use Rattle.reduction.proofs.Columns.{step_none, scaled_symbols, step_pivot}
 use Rattle.reduction.proofs.elimination.step.Goals as goal
 
-pub clear-column-requires : goal.clear-column-requires
-clear-column-requires g c =
+pub clear_column-requires : goal.clear_column-requires
+clear_column-requires g c =
     let f = g.F.Field.meaning c.args.f.now in
     let w = g.met.F.Field.lawful c.args.f.now in
     let columns : ℕ = c.args.columns in
     record {
-      sized = c.scale-pivot.auto.block ∙ c.swap-rows.auto.block ∙ c.requires.sized;
+      sized = c.scale_pivot.auto.block ∙ c.swap_rows.auto.block ∙ c.requires.sized;
       row = omega (arith, c.in-Some.ensures.from, c.in-Some.ensures.within);
       inside = c.requires.inside;
-      one = c.scale-pivot.ensures.one;
+      one = c.scale_pivot.ensures.one;
       symbols =
           scaled_symbols f w c.args.rows columns c.args.column c.args.top (at columns c.args.block.now) c.requires.symbols
-          (at columns c.swap-rows.new.block) (at columns c.scale-pivot.new.block) c.in-Some.i (f.inverse (at columns c.swap-rows.new.block c.args.top c.args.column))
-          c.in-Some.ensures c.swap-rows.ensures c.scale-pivot.ensures.scaled;
+          (at columns c.swap_rows.new.block) (at columns c.scale_pivot.new.block) c.in-Some.i (f.inverse (at columns c.swap_rows.new.block c.args.top c.args.column))
+          c.in-Some.ensures c.swap_rows.ensures c.scale_pivot.ensures.scaled;
     }
 
 pub returns-in-Some : goal.returns-in-Some
@@ -25,10 +25,10 @@ returns-in-Some g c =
     let w = g.met.F.Field.lawful c.args.f.now in
     let columns : ℕ = c.args.columns in
     step_pivot f w c.args.rows columns c.args.column c.args.top (at columns c.args.block.now) c.requires.symbols
-    (at columns c.swap-rows.new.block) (at columns c.scale-pivot.new.block) c.in-Some.i (f.inverse (at columns c.swap-rows.new.block c.args.top c.args.column))
-    c.in-Some.ensures c.swap-rows.ensures c.scale-pivot.ensures.scaled
-    (at columns c.clear-column.new.block) c.requires.inside c.scale-pivot.ensures.one c.scale-pivot.ensures.nulls
-    c.clear-column.ensures.cleared c.clear-column.ensures.nulls
+    (at columns c.swap_rows.new.block) (at columns c.scale_pivot.new.block) c.in-Some.i (f.inverse (at columns c.swap_rows.new.block c.args.top c.args.column))
+    c.in-Some.ensures c.swap_rows.ensures c.scale_pivot.ensures.scaled
+    (at columns c.clear_column.new.block) c.requires.inside c.scale_pivot.ensures.one c.scale_pivot.ensures.nulls
+    c.clear_column.ensures.cleared c.clear_column.ensures.nulls
 
 pub returns-in-None : goal.returns-in-None
 returns-in-None g c =

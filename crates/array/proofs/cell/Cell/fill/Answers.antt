@@ -10,13 +10,13 @@ made : (ts ys : List Term) → true ≡ lawful ts → ys ≡ ts
     → ◌≡◌ {A = CellRow} (record { count = length ts; terms = ys ++ drop (length ts) (replicate 4 no_term) }) (packed ts)
 made ts ys h e = cc (take_padded 4 no_term ts (lawful_short ts (sym h)))
 
-pub invariant-of-self : goal.invariant-of-self
-invariant-of-self c =
-    let h = c.if-not-is-lawful.ensures in
-    let e = made c.args.terms.now c.copy-from-slice.new.self h c.copy-from-slice.ensures.after in
-    (subst (λ (r : CellRow). sound r ≡ true) (sym e) (packed_sound c.args.terms.now (sym h)), tt)
+pub invariant_of-self : goal.invariant_of-self
+invariant_of-self c =
+    let h = c.if-not-is_lawful.ensures in
+    let e = made c.args.terms.now c.copy_from_slice.new.self h c.copy_from_slice.ensures.after in
+    record { keeps = subst (λ (r : CellRow). sound r ≡ true) (sym e) (packed_sound c.args.terms.now (sym h)) }
 
 pub returns : goal.returns
 returns c =
-    let h = c.if-not-is-lawful.ensures in
-    (sym h, made c.args.terms.now c.copy-from-slice.new.self h c.copy-from-slice.ensures.after)
+    let h = c.if-not-is_lawful.ensures in
+    (sym h, made c.args.terms.now c.copy_from_slice.new.self h c.copy_from_slice.ensures.after)

@@ -7,7 +7,7 @@ use Rattle.field.proofs.shift.ShiftField.multiply.Goals as goal
 
 pub loop-i-init : goal.loop-i-init
 unfolding scaled
-loop-i-init c = (c.requires.b-below, refl, multiples_none c.args.self.now.degree c.args.b c.args.a)
+loop-i-init c = (c.requires.b_below, refl, multiples_none c.args.self.now.degree c.args.b c.args.a)
 
 pub loop-i-preserved : goal.loop-i-preserved
 unfolding scaled
@@ -26,9 +26,9 @@ pub returns : goal.returns
 returns c =
     let f = c.args.self.now in
     let is = nine_bits f.degree f.degree_low f.degree_high c.loop-i.i c.args.a c.args.b c.loop-i.p
-    c.requires.a-below c.requires.b-below (omega (arith, c.loop-i-test.false, c.loop-i.auto.i-end)) c.loop-i.invariant.2 in
+    c.requires.a_below c.requires.b_below (omega (arith, c.loop-i-test.false, c.loop-i.auto.i-end)) c.loop-i.invariant.2 in
     record {
       is = is;
       below = subst (λ (x : ℕ). x < 2 ^ f.degree) (sym is)
-          (product_lt f.degree f.degree_low f.degree_high c.args.a c.args.b c.requires.a-below);
+          (product_lt f.degree f.degree_low f.degree_high c.args.a c.args.b c.requires.a_below);
     }

@@ -4,34 +4,34 @@ use Rattle.std.proofs.lemmas.Result.{err_from_is_err_and}
 use Rattle.history.specs.Refusals.{place_refusal}
 use Rattle.history.proofs.edit.History.judge_place.Goals as goal
 
-pub returns-in-err-check-buffers : goal.returns-in-err-check-buffers
+pub returns-in_err-check_buffers : goal.returns-in_err-check_buffers
 unfolding place_refusal
-returns-in-err-check-buffers c =
-    let p = err_from_is_err_and c.from-residual.result c.from-residual.ensures.1 in
-    let h = c.in-err-check-buffers.ensures in
+returns-in_err-check_buffers c =
+    let p = err_from_is_err_and c.from_residual.result c.from_residual.ensures.1 in
+    let h = c.in_err-check_buffers.ensures in
     rw (p.1, p.2) (grind (arith, nat_tests))
 
-pub returns-in-err-k : goal.returns-in-err-k
+pub returns-in_err-k : goal.returns-in_err-k
 unfolding place_refusal
-returns-in-err-k c =
-    let p = err_from_is_err_and c.from-residual-in-err-k.result c.from-residual-in-err-k.ensures.1 in
-    let b = c.in-ok-check-buffers.ensures in
-    let h = c.in-err-k.ensures in
+returns-in_err-k c =
+    let p = err_from_is_err_and c.from_residual-in_err-k.result c.from_residual-in_err-k.ensures.1 in
+    let b = c.in_ok-check_buffers.ensures in
+    let h = c.in_err-k.ensures in
     rw (p.1, p.2) (grind (arith, nat_tests))
 
-pub returns-in-err-check-room : goal.returns-in-err-check-room
+pub returns-in_err-check_room : goal.returns-in_err-check_room
 unfolding place_refusal
-returns-in-err-check-room c =
-    let p = err_from_is_err_and c.from-residual-in-err-check-room.result c.from-residual-in-err-check-room.ensures.1 in
-    let b = c.in-ok-check-buffers.ensures in
-    let k = c.in-ok-k.ensures in
-    let h = c.in-err-check-room.ensures in
+returns-in_err-check_room c =
+    let p = err_from_is_err_and c.from_residual-in_err-check_room.result c.from_residual-in_err-check_room.ensures.1 in
+    let b = c.in_ok-check_buffers.ensures in
+    let k = c.in_ok-k.ensures in
+    let h = c.in_err-check_room.ensures in
     rw (p.1, p.2) (grind (arith, nat_tests))
 
 pub returns : goal.returns
 unfolding place_refusal
 returns c =
-    let b = c.in-ok-check-buffers.ensures in
-    let k = c.in-ok-k.ensures in
-    let h = c.in-ok-check-room.ensures in
+    let b = c.in_ok-check_buffers.ensures in
+    let k = c.in_ok-k.ensures in
+    let h = c.in_ok-check_room.ensures in
     grind (arith, nat_tests)

@@ -4,13 +4,13 @@ use Rattle.std.proofs.lemmas.Result.{err_from_is_err_and}
 use Rattle.history.specs.Refusals.{undo_refusal}
 use Rattle.history.proofs.edit.History.last_in_force.Goals as goal
 
-pub returns-in-err-check-buffers : goal.returns-in-err-check-buffers
+pub returns-in_err-check_buffers : goal.returns-in_err-check_buffers
 unfolding undo_refusal
-returns-in-err-check-buffers c =
-    let p = err_from_is_err_and c.from-residual.result c.from-residual.ensures.1 in
-    let h = c.in-err-check-buffers.ensures in
+returns-in_err-check_buffers c =
+    let p = err_from_is_err_and c.from_residual.result c.from_residual.ensures.1 in
+    let h = c.in_err-check_buffers.ensures in
     rw (p.1, p.2) (λ b. grind (arith, nat_tests))
 
 pub returns-then-self-eq0 : goal.returns-then-self-eq0
 unfolding undo_refusal
-returns-then-self-eq0 c = let h = c.in-ok-check-buffers.ensures in λ b. grind (arith, nat_tests)
+returns-then-self-eq0 c = let h = c.in_ok-check_buffers.ensures in λ b. grind (arith, nat_tests)

@@ -10,19 +10,19 @@ pub clear-requires : goal.clear-requires
 unfolding new_refusal
 clear-requires c =
     let n : Lengths = record { cells = length c.args.cells.now; blocks = c.args.blocks; records = c.args.records } in
-    new_long c.args.order n c.args.size c.args.rows c.args.columns c.in-ok-shape.ensures.0
+    new_long c.args.order n c.args.size c.args.rows c.args.columns c.in_ok-shape.ensures.0
 
-pub returns-in-err-shape : goal.returns-in-err-shape
+pub returns-in_err-shape : goal.returns-in_err-shape
 unfolding new_refusal
-returns-in-err-shape c =
-    let p = err_from_is_err_and c.from-residual.result c.from-residual.ensures.1 in
-    let h = c.in-err-shape.ensures in
+returns-in_err-shape c =
+    let p = err_from_is_err_and c.from_residual.result c.from_residual.ensures.1 in
+    let h = c.in_err-shape.ensures in
     rw (p.1, p.2) (record { says = cc; does = search rules; model = tt })
 
 pub returns : goal.returns
 unfolding new_refusal
 returns c =
-    let h = c.in-ok-shape.ensures in
+    let h = c.in_ok-shape.ensures in
     let n : Lengths = record { cells = length c.args.cells.now; blocks = c.args.blocks; records = c.args.records } in
     let l = new_long c.args.order n c.args.size c.args.rows c.args.columns h.0 in
     let w = new_lawful c.args.order n c.args.size c.args.rows c.args.columns h.0 in

@@ -4,7 +4,7 @@ use Rattle.history.proofs.edit.History.place.Goals as goal
 
 pub returns : goal.returns
 returns c =
-    let k = c.in-ok-k.ensures in
+    let k = c.in_ok-k.ensures in
     record {
       says = search rules;
       does = search rules;

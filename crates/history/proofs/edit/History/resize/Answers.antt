@@ -4,7 +4,7 @@ use Rattle.history.proofs.edit.History.resize.Goals as goal
 
 pub returns : goal.returns
 returns c =
-    let k = c.in-ok-shape.ensures in
+    let k = c.in_ok-shape.ensures in
     record {
       says = search rules;
       does = search rules;

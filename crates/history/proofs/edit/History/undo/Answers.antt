@@ -6,24 +6,24 @@ use Rattle.history.specs.States.{state}
 use Rattle.history.proofs.CallsKept.{undo_kept}
 use Rattle.history.proofs.edit.History.undo.Goals as goal
 
-pub returns-in-err-k : goal.returns-in-err-k
-returns-in-err-k c =
-    let p = err_from_is_err_and c.from-residual.result c.from-residual.ensures.1 in
-    let h = c.in-err-k.ensures in
+pub returns-in_err-k : goal.returns-in_err-k
+returns-in_err-k c =
+    let p = err_from_is_err_and c.from_residual.result c.from_residual.ensures.1 in
+    let h = c.in_err-k.ensures in
     let held = c.args.self.now in
     let s = state held.shape held.count held.in_force c.args.cells.now c.args.records.now in
     rw (p.1, p.2) (record {
       says = sym (h _);
       does = search rules;
-      model = undo_kept c.args.order c.args.blocks s s (Err c.in-err-k.field-0.0) (sym (h _)) (search rules);
+      model = undo_kept c.args.order c.args.blocks s s (Err c.in_err-k.field-0.0) (sym (h _)) (search rules);
     })
 
-pub returns-in-err-self : goal.returns-in-err-self
+pub returns-in_err-self : goal.returns-in_err-self
 unfolding undo_refusal
-returns-in-err-self c =
-    let p = err_from_is_err_and c.from-residual-in-err-self.result c.from-residual-in-err-self.ensures.1 in
-    let k = c.in-ok-k.ensures in
-    let h = c.in-err-self.ensures in
+returns-in_err-self c =
+    let p = err_from_is_err_and c.from_residual-in_err-self.result c.from_residual-in_err-self.ensures.1 in
+    let k = c.in_ok-k.ensures in
+    let h = c.in_err-self.ensures in
     rw (p.1, p.2) (record {
       says = grind (arith, nat_tests);
       does = search rules;
@@ -33,8 +33,8 @@ returns-in-err-self c =
 pub returns : goal.returns
 unfolding undo_refusal
 returns c =
-    let k = c.in-ok-k.ensures in
-    let h = c.in-ok-self.ensures in
+    let k = c.in_ok-k.ensures in
+    let h = c.in_ok-self.ensures in
     record {
       says = grind (arith, nat_tests);
       does = cc;
