@@ -27,7 +27,9 @@ fn judge(
     out: usize,
     work: usize,
 ) -> Result<(), Refusal>
-    ensures { let s = shape.now in
+    ensures judged { let s = shape.now in
+        Encodable order s.size s.rows s.columns blocks.now message.now out work result }
+    ensures refusal { let s = shape.now in
         let answer = encode_refusal order s.size s.rows s.columns blocks.now message.now out work in
         MatchResult result (λ _. answer ≡ None) (λ x. answer ≡ Some x) }
 {

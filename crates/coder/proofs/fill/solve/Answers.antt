@@ -15,12 +15,12 @@ loop-j-preserved g c = λ v hv.
     let m : ℕ → ℕ → ℕ = matrix n c.args.blocks.now c.args.base in
     let u : ℕ → ℕ = λ j. get_or xs j 0 in
     let j = c.loop-j.j in
-    let i = c.lead-row-of-i.result in
+    let i = c.lead_row_of-i.result in
     let e : c.if-i-rows.row ≡ solved f rows n m v j =
     elim c.if-i-rows.branch [
-      | then-i-rows w' ↦ solved_at_lead f w rows n m v u hv j i c.if-i-rows.row c.lead-row-of-i.ensures
-          (is_taken rows m j i c.lead-row-of-i.ensures (λ s. omega (arith, w'.if-i-rows.true))) (w'.row-is ∙ w'.row-times.ensures)
+      | then-i-rows w' ↦ solved_at_lead f w rows n m v u hv j i c.if-i-rows.row c.lead_row_of-i.ensures
+          (is_taken rows m j i c.lead_row_of-i.ensures (λ s. omega (arith, w'.if-i-rows.true))) (w'.row-is ∙ w'.row_times.ensures)
       | else-i-rows w' ↦ solved_at_free f w rows n m v u hv j c.if-i-rows.row c.loop-j-test.true
-          (is_free rows m j i c.lead-row-of-i.ensures (omega (arith, w'.if-i-rows.false, c.lead-row-of-i.ensures, lead_row_le rows m j))) w'.row-is
+          (is_free rows m j i c.lead_row_of-i.ensures (omega (arith, w'.if-i-rows.false, c.lead_row_of-i.ensures, lead_row_le rows m j))) w'.row-is
     ] in
     stored (solved f rows n m v) c.loop-j.row j c.if-i-rows.row (omega arith) (c.loop-j.invariant v hv) e

@@ -4,7 +4,7 @@ use Rattle.algebra.specs.Matrices.{free, count}
 use Rattle.coder.specs.Forms.{matrix}
 use Rattle.coder.proofs.Fills.{stored, is_free, is_taken, spread_free_lem, spread_taken}
 use Rattle.coder.proofs.fill.spread_free.Goals as goal
-use Rattle.coder.proofs.fill.spread_free.Goals.{then-lead-row-of-rows, else-lead-row-of-rows}
+use Rattle.coder.proofs.fill.spread_free.Goals.{then-lead_row_of-rows, else-lead_row_of-rows}
 
 pub loop-j-preserved : goal.loop-j-preserved
 loop-j-preserved c =
@@ -17,18 +17,18 @@ loop-j-preserved c =
     let msg = c.args.message.now in
     let u : ℕ → ℕ = λ h. cond (p h) (get_or msg (first + count h p) 0) 0 in
     let room : j < length c.loop-j.values = omega arith in
-    elim c.if-lead-row-of-rows.branch [
-      | then-lead-row-of-rows w ↦
-          let t = is_free rows m j c.lead-row-of.result c.lead-row-of.ensures w.if-lead-row-of-rows.true in (
-            spread_free_lem p first j k c.if-lead-row-of-rows.k t c.loop-j.invariant.0 w.k-is,
+    elim c.if-lead_row_of-rows.branch [
+      | then-lead_row_of-rows w ↦
+          let t = is_free rows m j c.lead_row_of.result c.lead_row_of.ensures w.if-lead_row_of-rows.true in (
+            spread_free_lem p first j k c.if-lead_row_of-rows.k t c.loop-j.invariant.0 w.k-is,
             omega (arith, w.k-is),
             subst (λ (xs : List ℕ). (h : ℕ) → h < j + 1 → get_or xs h 0 ≡ u h) (sym w.values-is)
-                (stored u c.loop-j.values j w.symbol-at.result room c.loop-j.invariant.2
-                (w.symbol-at.ensures ∙ ap (λ (n : ℕ). get_or msg n 0) c.loop-j.invariant.0 ∙ sym (cond-true (p j) (get_or msg (first + count j p) 0) 0 t))),
+                (stored u c.loop-j.values j w.symbol_at.result room c.loop-j.invariant.2
+                (w.symbol_at.ensures ∙ ap (λ (n : ℕ). get_or msg n 0) c.loop-j.invariant.0 ∙ sym (cond-true (p j) (get_or msg (first + count j p) 0) 0 t))),
           )
-      | else-lead-row-of-rows w ↦
-          let t = is_taken rows m j c.lead-row-of.result c.lead-row-of.ensures w.if-lead-row-of-rows.false in (
-            spread_taken p first j k c.if-lead-row-of-rows.k t c.loop-j.invariant.0 w.k-is,
+      | else-lead_row_of-rows w ↦
+          let t = is_taken rows m j c.lead_row_of.result c.lead_row_of.ensures w.if-lead_row_of-rows.false in (
+            spread_taken p first j k c.if-lead_row_of-rows.k t c.loop-j.invariant.0 w.k-is,
             omega (arith, w.k-is),
             subst (λ (xs : List ℕ). (h : ℕ) → h < j + 1 → get_or xs h 0 ≡ u h) (sym w.values-is)
                 (stored u c.loop-j.values j 0 room c.loop-j.invariant.2 (sym (cond-false (p j) (get_or msg (first + count j p) 0) 0 t))),

@@ -19,19 +19,19 @@ loop-t-preserved g c = λ j h.
     let m = g.F.Field.meaning c.args.f.now in
     let columns = length c.args.sums.now in
     let work = c.args.work.now in
-    let start = c.row-start-start.result in
+    let start = c.row_start-start.result in
     let i = c.loop-t.t in
-    let l : start + columns ≤ length work = omega (arith, c.row-start-start.ensures.fits) in
+    let l : start + columns ≤ length work = omega (arith, c.row_start-start.ensures.fits) in
     horner_more m (g.met.F.Field.lawful c.args.f.now) c.args.x c.args.rows i (λ t. coefficient columns work j t)
-    (get_or c.loop-t.own_val j 0) (get_or c.step-row.new.sums j 0) c.loop-t-test.true c.loop-t.auto.t
+    (get_or c.loop-t.own j 0) (get_or c.step_row.new.sums j 0) c.loop-t-test.true c.loop-t.auto.t
     (c.loop-t.invariant j h)
-    (c.step-row.ensures j (omega (arith, part_length start columns work l))
-    ∙ ap (λ (y : ℕ). m.sum y (m.product c.args.x (get_or c.loop-t.own_val j 0)))
-    (part_read start columns work j h ∙ ap (λ (k : ℕ). get_or work (k + j) 0) c.row-start-start.ensures.is))
+    (c.step_row.ensures j (omega (arith, part_length start columns work l))
+    ∙ ap (λ (y : ℕ). m.sum y (m.product c.args.x (get_or c.loop-t.own j 0)))
+    (part_read start columns work j h ∙ ap (λ (k : ℕ). get_or work (k + j) 0) c.row_start-start.ensures.is))
 
 pub returns : goal.returns
 returns g c = λ j h.
-    ap (λ (xs : List ℕ). get_or xs j 0) c.copy-from-slice.ensures.after
+    ap (λ (xs : List ℕ). get_or xs j 0) c.copy_from_slice.ensures.after
     ∙ horner_all (g.F.Field.meaning c.args.f.now) (g.met.F.Field.lawful c.args.f.now) c.args.x c.args.rows c.loop-t.t
-    (λ t. coefficient (length c.args.sums.now) c.args.work.now j t) (get_or c.loop-t.own_val j 0) c.loop-t-test.false
+    (λ t. coefficient (length c.args.sums.now) c.args.work.now j t) (get_or c.loop-t.own j 0) c.loop-t-test.false
     (c.loop-t.invariant j h)

@@ -4,5 +4,5 @@ use Rattle.coder.proofs.transform.evaluate.Given as goal
 
 abbrev pub invariant-loop-t : goal.invariant-loop-t
 invariant-loop-t g l =
-    (j : ℕ) → j < l.columns → get_or l.own_val j 0
+    (j : ℕ) → j < l.columns → get_or l.own j 0
     ≡ value (g.F.Field.meaning l.f) (l.rows - l.t) (λ t. coefficient l.columns l.work j (l.t + t)) l.x
