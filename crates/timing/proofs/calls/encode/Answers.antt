@@ -7,8 +7,8 @@ use Rattle.timing.proofs.calls.encode.Goals as goal
 
 pub returns : goal.returns
 returns g c =
-    let s = c.in-ok-shape.shape in
-    let same = c.in-ok-shape.ensures in
+    let s = c.in_ok-shape.shape in
+    let same = c.in_ok-shape.ensures in
     let m = g.F.Field.meaning c.args.f.now in
     let size = c.args.size in
     let P : ℕ → ℕ → ℕ → Type 0 = λ e rows columns. (cells : List CellRow) → (m.q - 1) % e ≡ 0 →

@@ -7,8 +7,8 @@ use Rattle.timing.proofs.calls.recover.Goals as goal
 
 pub returns-in-Ok : goal.returns-in-Ok
 returns-in-Ok g c =
-    let s = c.in-ok-shape.shape in
-    let same = c.in-ok-shape.ensures in
+    let s = c.in_ok-shape.shape in
+    let same = c.in_ok-shape.ensures in
     let m = g.F.Field.meaning c.args.f.now in
     let told = c.in-Ok.ensures in
     let P : ℕ → ℕ → ℕ → Type 0 = λ e rows columns. Reads m e rows columns c.args.cells.now c.args.blocks.now c.args.word.now

@@ -10,17 +10,17 @@ use Rattle.editor.proofs.changes.Editor.new.Goals as goal
 pub rebuild-requires : goal.rebuild-requires
 rebuild-requires g c =
     let n = lent (length c.args.cells.now) (length c.args.blocks.now) (length c.args.records.now) in
-    let long = new_room c.order.result n c.args.size c.args.rows c.args.columns c.in-ok-history.ensures.says in
+    let long = new_room c.order.result n c.args.size c.args.rows c.args.columns c.in_ok-history.ensures.says in
     record { cells = omega (arith, long.0, c.new.auto.cells); room = long.1 }
 
 pub returns : goal.returns
 returns g c =
     let f = g.F.Field.meaning c.args.field in
     let n = lent (length c.args.cells.now) (length c.args.blocks.now) (length c.args.records.now) in
-    let h = c.in-ok-history.history in
+    let h = c.in_ok-history.history in
     let cells = c.new.new.cells in
     let records = c.args.records.now in
-    let done = c.in-ok-history.ensures in
+    let done = c.in_ok-history.ensures in
     let built = forms_built f c.shape.result h cells records c.args.blocks.now c.rebuild.new.blocks c.shape.ensures
     (c.rebuild.ensures.forms, c.rebuild.ensures.past) in
     record {

@@ -11,7 +11,7 @@ pub rebuild-requires : goal.rebuild-requires
 rebuild-requires g c =
     let before = state_of c.args.self.now.history c.args.cells.now c.args.records.now in
     let n = lengths before (length c.args.blocks.now) in
-    let long = resize_room c.order-order.result (counts before) n c.args.size c.in-ok-resize.ensures.says in
+    let long = resize_room c.order-order.result (counts before) n c.args.size c.in_ok-resize.ensures.says in
     record { cells = omega (arith, long.0); room = long.1 }
 
 pub returns : goal.returns
@@ -20,7 +20,7 @@ returns g c =
     let before = state_of c.args.self.now.history c.args.cells.now c.args.records.now in
     let after = state_of c.resize.new.self c.args.cells.now c.resize.new.records in
     let n = lengths before (length c.args.blocks.now) in
-    let done = c.in-ok-resize.ensures in
+    let done = c.in_ok-resize.ensures in
     let built = forms_built f c.shape.result c.resize.new.self c.args.cells.now c.resize.new.records c.args.blocks.now c.rebuild.new.blocks c.shape.ensures
     (c.rebuild.ensures.forms, c.rebuild.ensures.past) in
     record {
