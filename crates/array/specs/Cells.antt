@@ -1,5 +1,5 @@
 -- The rules for cells, and what a plain row means.
-use Rattle.std.specs.Prelude.{ℕ, ◌+◌, Bool, true, false, cond, ◌&&◌, List, [], ◌∷◌, ◌++◌, length, take, drop, replicate, ◌==◌, nat_le, nat_lt}
+use Rattle.std.specs.Prelude.{ℕ, ◌+◌, Bool, true, cond, ◌&&◌, List, [], ◌∷◌, ◌++◌, length, take, drop, replicate, ◌==◌, nat_le, nat_lt}
 use Rattle.array.specs.declared.plain.Term.{Term}
 use Rattle.array.specs.declared.plain.CellRow.{CellRow}
 

@@ -1,21 +1,19 @@
 -- The check blocks are those of the array, and are reduced one after the other.
-use Rattle.std.proofs.Common.{◌≡◌, ℕ, suc, ◌+◌, ◌*◌, ◌%◌, ◌<◌, ◌≤◌, List, length, get_or, take, drop, Option, sym, refl, ap, ◌∙◌, subst, ⊎_elim, suc-mul, mul_comm, add-mul, arith}
+use Rattle.std.proofs.Common.{◌≡◌, ℕ, suc, ◌+◌, ◌*◌, ◌%◌, ◌<◌, ◌≤◌, List, length, get_or, take, drop, Option, sym, refl, ◌∙◌, subst, ⊎_elim, suc-mul, mul_comm, add-mul, arith}
 use borrow.Rule.Slice.PartMut.{put_mid}
 use Rattle.std.proofs.lemmas.Nat.{mul-add-lt, mul-le}
 use Rattle.std.proofs.lemmas.Bool.{cases_eq}
 use Rattle.field.specs.Meaning.{Meaning, Lawful, power}
-use Rattle.field.specs.Sums.{total}
 use Rattle.algebra.specs.Matrices.{Reduced}
-use Rattle.algebra.specs.Transforms.{root, generator, check_block}
+use Rattle.algebra.specs.Transforms.{root, check_block}
 use Rattle.algebra.proofs.Generators.{generator_by_terms}
 use Rattle.algebra.proofs.Sums.{total_below}
 use Rattle.reduction.specs.Blocks.{Outcome}
 use Rattle.reduction.proofs.Parts.{outcome_reduced, reduced_same, part_block, part_reduced, put_before, put_after}
-use Rattle.array.specs.declared.plain.Term.{Term}
 use Rattle.array.specs.declared.plain.CellRow.{CellRow}
 use Rattle.array.specs.Buffers.{blank, cell_at}
 use Rattle.array.specs.Cells.{no_term, terms_of}
-use Rattle.blocks.specs.Blocks.{circulant, block_at, terms_at, Built, Holds}
+use Rattle.blocks.specs.Blocks.{circulant, block_at, Built, Holds}
 
 -- place k of a block is in range
 pub place_lt : (rows columns i j : ℕ) → i < rows → j < columns → i * columns + j < rows * columns

@@ -1,5 +1,5 @@
 -- A power by squares, bit by bit of the exponent.
-use Rattle.std.proofs.Common.{◌≡◌, ℕ, suc, ◌+◌, ◌-◌, ◌*◌, ◌/◌, ◌%◌, ◌^◌, ◌<◌, sym, ap, ◌∙◌, ap₂, arith, shr-shr}
+use Rattle.std.proofs.Common.{◌≡◌, ℕ, suc, ◌+◌, ◌-◌, ◌/◌, ◌%◌, ◌^◌, ◌<◌, sym, ap, ◌∙◌, ap₂, arith, shr-shr}
 use lib.Bits.{bit_and, and_mask}
 use Rattle.field.specs.Meaning.{Meaning, Lawful, power}
 use Rattle.algebra.proofs.Powers.{power_add}

@@ -1,7 +1,7 @@
 -- What holds where a call does not refuse.
-use Rattle.std.proofs.Common.{◌≡◌, ℕ, ◌*◌, ◌<◌, ◌≤◌, true, List, length, get_or, None, arith}
+use Rattle.std.proofs.Common.{◌≡◌, ℕ, ◌*◌, ◌<◌, ◌≤◌, List, length, get_or, None, arith}
 use Rattle.std.proofs.lemmas.Bool.Decides.{nat_tests}
-use Rattle.code.specs.Checks.{symbols_below, check_refusal}
+use Rattle.code.specs.Checks.{check_refusal}
 use Rattle.code.proofs.Symbols.{symbols_at}
 use Rattle.coder.specs.Forms.{dimension}
 use Rattle.coder.specs.Encoding.{encode_refusal}

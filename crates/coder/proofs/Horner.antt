@@ -1,5 +1,5 @@
 -- Horner's rule, from the highest coefficient down.
-use Rattle.std.proofs.Common.{◌≡◌, ℕ, zero, suc, ◌+◌, ◌-◌, ◌*◌, ◌<◌, ◌≤◌, List, sym, refl, ap, ◌∙◌, ap₂, add-zero, add-suc, suc-mul, mul_comm, arith}
+use Rattle.std.proofs.Common.{◌≡◌, ℕ, suc, ◌+◌, ◌-◌, ◌*◌, ◌<◌, ◌≤◌, List, sym, ap, ◌∙◌, ap₂, add-zero, suc-mul, mul_comm, arith}
 use Rattle.std.proofs.lemmas.Nat.{mul-le}
 use Rattle.field.specs.Meaning.{Meaning, Lawful, power}
 use Rattle.field.specs.Sums.{total}

@@ -1,10 +1,9 @@
 -- Messages and the words that pass every parity check stand for one another, one to one.
-use Rattle.std.proofs.Common.{◌≡◌, ℕ, ◌+◌, ◌-◌, ◌*◌, ◌%◌, ◌<◌, ◌≤◌, Bool, List, length, get_or, sym, ap, ◌∙◌, arith}
+use Rattle.std.proofs.Common.{◌≡◌, ℕ, ◌+◌, ◌-◌, ◌*◌, ◌%◌, ◌<◌, Bool, List, get_or, sym, ap, ◌∙◌, arith}
 use Rattle.std.proofs.lemmas.List.{take_all}
 use Rattle.field.specs.Meaning.{Meaning, Lawful, CharacteristicTwo, power}
-use Rattle.field.specs.Sums.{total}
-use Rattle.algebra.specs.Transforms.{root, spectrum, synthesis, check_block}
-use Rattle.algebra.specs.Matrices.{free, count}
+use Rattle.algebra.specs.Transforms.{root, spectrum, check_block}
+use Rattle.algebra.specs.Matrices.{count}
 use Rattle.algebra.specs.Solutions.{offset, gathered, collected}
 use Rattle.algebra.proofs.Powers.{zero_below}
 use Rattle.algebra.proofs.Sums.{total_same, total_below}
@@ -16,8 +15,8 @@ use Rattle.array.specs.declared.plain.CellRow.{CellRow}
 use Rattle.blocks.specs.Blocks.{circulant, block_at, Holds}
 use Rattle.code.specs.Checks.{PassesAll}
 use Rattle.coder.specs.Columns.{coefficient}
-use Rattle.coder.specs.Forms.{frees, dimension}
-use Rattle.coder.specs.Encoding.{spread, encoded}
+use Rattle.coder.specs.Forms.{frees}
+use Rattle.coder.specs.Encoding.{spread}
 use Rattle.coder.specs.Recovery.{recovered, Message, Word, EncodesTo, OneToOne}
 use Rattle.coder.proofs.Writes.{place_within}
 use Rattle.coder.proofs.Passing.{syndrome_by_terms, spectrum_is, every_message_encodes_to_a_passing_word, all_symbols}

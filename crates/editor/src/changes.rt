@@ -84,6 +84,7 @@ impl<F: Field + Drop> Editor<F> {
             ((k : Model) → Stands m k before blocks.old →
             Follows m k (lengths before (length blocks.old)) (place row column cell.now.row) result after blocks.new) }
         ensures same { self.new.field ≡ self.old.field }
+        ensures shape { self.new.history.shape ≡ self.old.history.shape }
     {
         let order = self.field.order();
         self.history

@@ -4,7 +4,7 @@ ghost use Rattle.refusal.specs.declared.Refusal.TheVariants.{Buffer};
 ghost use Rattle.array.specs.declared.plain.CellRow.{CellRow};
 ghost use Rattle.array.specs.Buffers.{show_refusal, cell_at};
 ghost use Rattle.array.specs.Cells.{normal};
-ghost use Rattle.code.specs.Checks.{Answered, PassesAll};
+ghost use Rattle.code.specs.Checks.{Checked, Answered, PassesAll};
 ghost use Rattle.coder.specs.Forms.{dimension as dimension_of};
 ghost use Rattle.coder.specs.Encoding.{encoded, encode_refusal};
 ghost use Rattle.coder.specs.Recovery.{recovered, Recovers, OneToOne};
@@ -105,7 +105,9 @@ impl<F: Field> Editor<F> {
     // Says of a word whether it passes every parity check of the array, or which one fails first.
     // Refuses with Buffer, Length where the word has not columns x size symbols, then Symbol.
     pub fn check(&self, cells: &[CellRow], word: &[Symbol]) -> Result<Verdict, Refusal>
-        ensures { let s = self.now.history.shape in
+        ensures checked { let s = self.now.history.shape in
+            Checked (F.Field.meaning self.now.field) s.size s.rows s.columns cells.now word.now result }
+        ensures answered { let s = self.now.history.shape in
             Answered (F.Field.meaning self.now.field) s.size s.rows s.columns cells.now word.now result }
     {
         code::check(self.field(), &self.history().shape(), cells, word)

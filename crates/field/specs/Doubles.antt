@@ -1,12 +1,12 @@
 -- Times x, modulo the polynomial, for degrees 2 to 9.
-use Rattle.std.specs.Prelude.{◌≡◌, ℕ, zero, suc, ◌+◌, ◌-◌, ◌*◌, ◌/◌, ◌%◌, ◌^◌, ◌<◌, ◌≤◌, bit_xor}
+use Rattle.std.specs.Prelude.{◌≡◌, ℕ, zero, suc, ◌+◌, ◌*◌, ◌/◌, ◌%◌, ◌^◌, ◌<◌, ◌≤◌, bit_xor}
 use Rattle.std.proofs.Math.Path.{refl, ap}
-use Rattle.std.proofs.Common.{sym, ◌∙◌, arith, pow-suc, zero-add, suc-add, div-add-mod', mod-lt, zero-mul, pow_pos}
+use Rattle.std.proofs.Common.{◌∙◌, arith, pow-suc, zero-add, suc-add, div-add-mod', mod-lt, zero-mul, pow_pos}
 use Rattle.std.proofs.Math.Nat.{div-eq_of_lt, zero-div}
 use Rattle.std.specs.Int.Bits.{xor_zero_r}
 use Rattle.std.proofs.Math.Pow.{pow-lt}
 use Rattle.field.specs.Shift.{polynomial, pick, xors, double, scaled}
-use Rattle.std.proofs.lemmas.Nat.{div_below, xor_lt, xor_shr}
+use Rattle.std.proofs.lemmas.Nat.{div_below, xor_shr}
 use Rattle.field.specs.Xors.{xor_middle, xor_double, pick_xor, xors_lt}
 
 -- what is to be shown of a degree from 2 to 9, degree by degree

@@ -1,11 +1,11 @@
 -- The shift field of every degree shows the laws of a field of characteristic two.
-use Rattle.std.specs.Prelude.{◌≡◌, ℕ, zero, suc, ◌+◌, ◌-◌, ◌*◌, ◌/◌, ◌%◌, ◌^◌, ◌<◌, ◌≤◌, cond, bit_xor, nat_lt}
+use Rattle.std.specs.Prelude.{◌≡◌, ℕ, zero, suc, ◌-◌, ◌^◌, ◌<◌, ◌≤◌, bit_xor, nat_lt}
 use Rattle.std.proofs.Math.Path.{refl, sym, ap, ap₂}
 use Rattle.std.proofs.Common.{subst, ◌∙◌, ⊎_elim, arith, pow_pos}
 use Rattle.std.specs.Int.Bits.{xor_assoc, xor_self}
 use Rattle.std.proofs.lemmas.Nat.{xor_comm, xor_lt}
 use Rattle.std.proofs.lemmas.Bool.{lt-ltb, le-ltb, cond-true, cond-false, cases_lt}
-use Rattle.field.specs.Meaning.{Meaning, power, Lawful, CharacteristicTwo}
+use Rattle.field.specs.Meaning.{power, Lawful, CharacteristicTwo}
 use Rattle.field.specs.Shift.{double, scaled, multiplied, raised, symbol, shift_field}
 use Rattle.field.specs.Products.{product_xor, product_lt, product_one_left, product_double}
 use Rattle.field.specs.Walks.{reached}

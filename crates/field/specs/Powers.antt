@@ -1,12 +1,12 @@
 -- Every nonzero symbol is a power of x, and a product of powers adds their exponents: so the product commutes, associates and has inverses.
-use Rattle.std.specs.Prelude.{◌≡◌, ℕ, zero, suc, ◌+◌, ◌-◌, ◌*◌, ◌/◌, ◌%◌, ◌^◌, ◌<◌, ◌≤◌, ◌≢◌, refl}
+use Rattle.std.specs.Prelude.{◌≡◌, ℕ, zero, suc, ◌+◌, ◌-◌, ◌*◌, ◌^◌, ◌<◌, ◌≤◌, ◌≢◌, refl}
 use Rattle.std.proofs.Math.Path.{sym, ap}
-use Rattle.std.proofs.Common.{subst, ◌∙◌, ⊎_elim, arith, add_comm, zero-add, suc-add, zero-mul, suc-mul, mul_comm, mul-suc, pow_pos}
+use Rattle.std.proofs.Common.{subst, ◌∙◌, ⊎_elim, arith, add_comm, zero-add, suc-add, zero-mul, suc-mul, mul_comm, mul-suc}
 use Rattle.std.proofs.Math.Pow.{pow-lt}
 use Rattle.std.proofs.lemmas.Bool.{cases_order}
 use Rattle.field.specs.Shift.{double, scaled, multiplied, raised}
 use Rattle.field.specs.Doubles.{double_small, scaled_lt, scaled_add, scaled_zero, scaled_double}
-use Rattle.field.specs.Products.{product_zero_left, product_zero_right, product_one_left, product_lt, product_scaled, product_double}
+use Rattle.field.specs.Products.{product_zero_left, product_zero_right, product_one_left, product_lt, product_scaled}
 use Rattle.field.specs.Walks.{turn, no_earlier_turn, reached}
 
 scaled_suc : (r k a : ℕ) → scaled r (suc k) a ≡ double r (scaled r k a)

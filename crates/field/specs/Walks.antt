@@ -1,8 +1,8 @@
 -- One computed walk through the powers of x, for each degree: x^(q-1) = 1, no lower power is 1, and every nonzero symbol is met.
-use Rattle.std.specs.Prelude.{◌≡◌, ℕ, zero, suc, ◌+◌, ◌-◌, ◌*◌, ◌/◌, ◌%◌, ◌^◌, ◌<◌, ◌≤◌, Bool, true, false, not, ◌&&◌, List, [], ◌∷◌, ◌==◌, ◌≢◌, refl}
+use Rattle.std.specs.Prelude.{◌≡◌, ℕ, zero, suc, ◌-◌, ◌^◌, ◌<◌, ◌≤◌, Bool, true, false, not, ◌&&◌, List, [], ◌∷◌, ◌==◌, ◌≢◌, refl}
 use Rattle.std.proofs.Common.{sym, ap, ◌∙◌, ⊎_elim, arith}
 use Rattle.std.proofs.lemmas.Bool.{and_parts, cases_eq, not-true, eqb-true, eqb-false}
-use Rattle.field.specs.Shift.{double, scaled, pick, polynomial}
+use Rattle.field.specs.Shift.{double, scaled}
 use Rattle.field.specs.Doubles.{degrees, scaled_double}
 
 -- none of c, x c, .., x^(n-1) c is 1

@@ -1,8 +1,7 @@
 -- Exclusive or as the sum of polynomials over the field of two elements.
-use Rattle.std.specs.Prelude.{◌≡◌, ℕ, zero, suc, ◌+◌, ◌-◌, ◌*◌, ◌/◌, ◌%◌, ◌^◌, ◌<◌, ◌≤◌, bit_xor, refl}
-use Rattle.std.proofs.Common.{sym, ap, ◌∙◌, arith, pow-suc, mod-lt, div-add-mod', one-add, pow_pos, shr-shr}
-use Rattle.std.proofs.Math.Nat.{zero-mod}
-use Rattle.std.specs.Int.Bits.{xor_assoc, xor_self, xor_zero_l, xor_zero_r, xor_shifted}
+use Rattle.std.specs.Prelude.{◌≡◌, ℕ, zero, suc, ◌+◌, ◌*◌, ◌/◌, ◌%◌, ◌^◌, ◌<◌, bit_xor, refl}
+use Rattle.std.proofs.Common.{sym, ap, ◌∙◌, arith, mod-lt, one-add, pow_pos}
+use Rattle.std.specs.Int.Bits.{xor_assoc, xor_self, xor_zero_r, xor_shifted}
 use Rattle.std.proofs.lemmas.Nat.{xor_comm, xor_lt, xor_shr, xor_mod, xor_block, mod-pow-add}
 use Rattle.field.specs.Shift.{pick, xors}
 

@@ -1,6 +1,10 @@
 // What a script has set up so far: a field, an editor over it, and the buffers that are lent to the editor's calls.
-ghost use Rattle.std.specs.Prelude.{◌≡◌, ◌≤◌, Some, None, MatchResult};
-ghost use Rattle.guldremor.specs.Sessions.{meaning_of};
+ghost use Rattle.std.specs.Prelude.{◌≡◌, ◌≤◌, length, take, Some, None, Ok, MatchResult, IfOk, IsTrue};
+ghost use Rattle.array.specs.declared.shape.Shape.{Shape};
+ghost use Rattle.array.specs.Buffers.{show_refusal, cell_at};
+ghost use Rattle.array.specs.Cells.{normal};
+ghost use Rattle.code.specs.Checks.{Checked};
+ghost use Rattle.guldremor.specs.Sessions.{meaning_of, chosen_of, drawn_shape, shape_of, is_over};
 
 use super::answer::{SizeLine, Trouble};
 use array::{Cell, CellRow, Term};
@@ -66,6 +70,52 @@ macro_rules! change_editor {
     };
 }
 
+impl Drawn {
+    // Puts a cell at a place of the array.
+    fn place(
+        &mut self,
+        cells: &mut [CellRow],
+        blocks: &mut [Symbol],
+        records: &mut [ChangeRecord],
+        row: usize,
+        column: usize,
+        cell: &Cell,
+    ) -> Result<(), Refusal>
+        ensures { (chosen_of self.new ≡ chosen_of self.old) × (drawn_shape self.new ≡ drawn_shape self.old) }
+    {
+        match self {
+            Drawn::Shift(e) => e.place(cells, blocks, records, row, column, cell),
+            Drawn::Table(e) => e.place(cells, blocks, records, row, column, cell),
+        }
+    }
+
+    // Fills the caller's cell with the one at a place of the array.
+    fn show(
+        &self,
+        cells: &[CellRow],
+        row: usize,
+        column: usize,
+        cell: &mut Cell,
+    ) -> Result<(), Refusal>
+        ensures { let s = drawn_shape self.now in
+            let held = cells.now in
+            let answer = show_refusal s.rows s.columns (length held) row column in
+            MatchResult result
+            (λ _. (answer ≡ None) × (cell.new.row ≡ normal (cell_at s.columns held row column)))
+            (λ x. (answer ≡ Some x) × (cell.new.row ≡ cell.old.row)) }
+    {
+        on_editor!(*self, e => e.show(cells, row, column, cell))
+    }
+
+    // Says of a word whether it passes every parity check of the array.
+    fn check(&self, cells: &[CellRow], word: &[Symbol]) -> Result<Verdict, Refusal>
+        ensures { let s = drawn_shape self.now in
+            Checked (meaning_of (chosen_of self.now)) s.size s.rows s.columns cells.now word.now result }
+    {
+        on_editor!(*self, e => e.check(cells, word))
+    }
+}
+
 // How long the buffers are that a call is lent: first parts of those that the session holds.
 #[derive(Clone, Copy)]
 pub struct Lent {
@@ -89,6 +139,8 @@ pub struct Session {
     work: Vec<Symbol>,
     // the blocks of the sizes that `sizes` looks at
     spare: Vec<Symbol>,
+    // the array is drawn over the field that was chosen
+    ghost over: { IsTrue (is_over field drawn) },
 }
 
 const CELLS: usize = 1024;
@@ -224,16 +276,21 @@ impl Session {
         row: usize,
         column: usize,
         terms: &[Term],
-    ) -> Result<(), Trouble<'static>> {
-        let Some(drawn) = self.drawn else {
+    ) -> Result<(), Trouble<'static>>
+        ensures { (self.new.field ≡ self.old.field) × (shape_of self.new.drawn ≡ shape_of self.old.drawn) }
+    {
+        let Some(held) = self.drawn else {
             return Err(missing(self.field.is_some()));
         };
+        let mut drawn = held;
         let mut cell = Cell::empty();
         cell.fill(terms)?;
         let cells = front(self.cells.as_mut_slice(), self.lent.cells);
         let blocks = front(self.blocks.as_mut_slice(), self.lent.blocks);
         let records = front(self.records.as_mut_slice(), self.lent.records);
-        change_editor!(self, drawn, e => e.place(cells, blocks, records, row, column, &cell));
+        let answer = drawn.place(cells, blocks, records, row, column, &cell);
+        self.drawn = Some(drawn);
+        answer?;
         Ok(())
     }
 
@@ -270,14 +327,28 @@ impl Session {
         Ok(())
     }
 
-    pub fn show(&mut self, row: usize, column: usize) -> Result<CellRow, Trouble<'static>> {
+    pub fn show(&self, row: usize, column: usize) -> Result<CellRow, Trouble<'static>>
+        ensures { let d = self.now in
+            IfOk result (λ c. (s : Shape) × (shape_of d.drawn ≡ Some s) × (c ≡ normal (cell_at s.columns d.cells.items row column))) }
+    {
         let Some(drawn) = self.drawn else {
             return Err(missing(self.field.is_some()));
         };
-        let cells = front(self.cells.as_mut_slice(), self.lent.cells);
         let mut cell = Cell::empty();
-        on_editor!(drawn, e => e.show(cells, row, column, &mut cell)?);
+        drawn.show(self.lent_cells(), row, column, &mut cell)?;
         Ok(cell.row())
+    }
+
+    // The cells that the next calls are lent.
+    fn lent_cells(&self) -> &[CellRow]
+        ensures { result.now ≡ take self.now.lent.cells self.now.cells.items }
+    {
+        let cells = self.cells.as_slice();
+        if self.lent.cells < cells.len() {
+            &cells[..self.lent.cells]
+        } else {
+            cells
+        }
     }
 
     pub fn parameters(&mut self) -> Result<Parameters, Trouble<'static>> {
@@ -288,12 +359,15 @@ impl Session {
         Ok(on_editor!(drawn, e => e.size(blocks)?))
     }
 
-    pub fn check(&mut self, word: &[Symbol]) -> Result<Verdict, Trouble<'static>> {
+    pub fn check(&self, word: &[Symbol]) -> Result<Verdict, Trouble<'static>>
+        ensures { let d = self.now in
+            IfOk result (λ v. (f : Chosen) × (s : Shape) × (d.field ≡ Some f) × (shape_of d.drawn ≡ Some s)
+            × Checked (meaning_of f) s.size s.rows s.columns d.cells.items word.now (Ok v)) }
+    {
         let Some(drawn) = self.drawn else {
             return Err(missing(self.field.is_some()));
         };
-        let cells = front(self.cells.as_mut_slice(), self.lent.cells);
-        Ok(on_editor!(drawn, e => e.check(cells, word)?))
+        Ok(drawn.check(self.lent_cells(), word)?)
     }
 
     pub fn encode(&mut self, message: &[Symbol]) -> Result<Vec<Symbol>, Trouble<'static>> {

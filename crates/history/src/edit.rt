@@ -109,6 +109,7 @@ impl History {
             let before = state h.shape h.count h.in_force cells.old records.old in
             let after = state g.shape g.count g.in_force cells.new records.new in
             ((m : Model) → StandsFor order m before → Kept order m (lengths before blocks) (place row column cell.now.row) result after) }
+        ensures shape { self.new.shape ≡ self.old.shape }
     {
         let lent = Lengths {
             cells: cells.len(),

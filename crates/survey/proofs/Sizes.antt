@@ -1,12 +1,11 @@
 -- A survey at the size and shape that were asked for.
-use Rattle.std.proofs.Common.{◌≡◌, ℕ, ◌-◌, ◌*◌, ◌<◌, ◌≤◌, List, get_or, refl, ◌∙◌, subst, arith}
+use Rattle.std.proofs.Common.{◌≡◌, ℕ, ◌*◌, ◌≤◌, List, get_or, refl, subst, arith}
 use Rattle.field.specs.Meaning.{Meaning}
-use Rattle.algebra.specs.Matrices.{Reduced}
 use Rattle.algebra.specs.Transforms.{check_block}
 use Rattle.algebra.proofs.Counts.{rank_counts_lem}
 use Rattle.array.specs.declared.plain.CellRow.{CellRow}
 use Rattle.blocks.specs.Blocks.{circulant, block_at, Holds}
-use Rattle.coder.specs.Forms.{dimension, rank_at, deficient}
+use Rattle.coder.specs.Forms.{dimension, deficient}
 use Rattle.survey.specs.Surveys.{Surveyed}
 
 module _ (f : Meaning) (cells : List CellRow) (before after : List ℕ) (k lacking : ℕ) where

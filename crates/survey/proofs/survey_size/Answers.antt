@@ -1,4 +1,4 @@
-use Rattle.std.proofs.Common.{◌≡◌, ℕ, length, None, subst, arith}
+use Rattle.std.proofs.Common.{◌≡◌, ℕ, None, subst, arith}
 use Rattle.std.proofs.lemmas.Bool.Decides.{nat_tests}
 use Rattle.array.specs.Shapes.{shape_refusal}
 use Rattle.survey.proofs.Sizes.{surveyed}

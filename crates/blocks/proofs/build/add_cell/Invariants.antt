@@ -1,4 +1,4 @@
-use Rattle.std.proofs.Common.{ℕ, ◌*◌, ◌%◌, get_or}
+use Rattle.std.proofs.Common.{◌*◌, ◌%◌, get_or}
 use Rattle.field.specs.Meaning.{power}
 use Rattle.field.specs.Sums.{total}
 use Rattle.algebra.specs.Transforms.{root}

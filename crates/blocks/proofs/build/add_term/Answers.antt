@@ -1,4 +1,4 @@
-use Rattle.std.proofs.Common.{◌≡◌, ℕ, ◌+◌, ◌*◌, ◌%◌, ◌<◌, List, length, get_or, set, sym, ap, ◌∙◌, subst, arith}
+use Rattle.std.proofs.Common.{◌≡◌, ℕ, ◌+◌, ◌*◌, ◌%◌, ◌<◌, length, get_or, set, sym, ap, ◌∙◌, subst, arith}
 use Rattle.field.specs.Meaning.{power}
 use Rattle.algebra.specs.Transforms.{root}
 use Rattle.blocks.proofs.Adds.{AddedTo, added_none, added_more, added_all, added_like, term_first, term_next, term_value}

@@ -1,4 +1,4 @@
-use Rattle.std.proofs.Common.{◌≡◌, ℕ, ◌+◌, ◌*◌, ◌<◌, get_or, sym, ap, ◌∙◌, subst, mul_comm, arith}
+use Rattle.std.proofs.Common.{◌≡◌, ℕ, ◌+◌, ◌*◌, ◌<◌, sym, ap, ◌∙◌, subst, mul_comm, arith}
 use Rattle.blocks.proofs.FormsBuilt.{entry_below, reduced_more, all_held}
 use Rattle.blocks.proofs.forms.build_forms.Goals as goal
 

@@ -1,4 +1,4 @@
-use Rattle.std.proofs.Common.{ℕ, ◌+◌, ◌%◌, length, get_or}
+use Rattle.std.proofs.Common.{◌+◌, ◌%◌, length, get_or}
 use Rattle.array.specs.Cells.{no_term}
 use Rattle.code.proofs.Sums.{sum_more}
 use Rattle.code.proofs.receiver.add_cell.Goals as goal

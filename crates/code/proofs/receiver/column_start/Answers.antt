@@ -1,4 +1,4 @@
-use Rattle.std.proofs.Common.{◌≡◌, ℕ, suc, ◌+◌, ◌*◌, ◌≤◌, ap, suc-mul, arith}
+use Rattle.std.proofs.Common.{◌≡◌, ℕ, suc, ◌*◌, ap, suc-mul, arith}
 use Rattle.std.proofs.lemmas.Nat.{mul-le}
 use Rattle.code.proofs.receiver.column_start.Goals as goal
 

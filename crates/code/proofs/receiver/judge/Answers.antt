@@ -1,4 +1,4 @@
-use Rattle.std.proofs.Common.{◌≡◌, ℕ, ◌*◌, length, sym, rules, arith}
+use Rattle.std.proofs.Common.{◌≡◌, ◌*◌, length, sym, rules, arith}
 use Rattle.code.proofs.Symbols.{symbols_at, symbols_fail}
 use Rattle.code.proofs.receiver.judge.Goals as goal
 

@@ -1,6 +1,5 @@
-use Rattle.std.proofs.Common.{◌≡◌, ℕ, ◌+◌, ◌*◌, ◌<◌, ◌≢◌, length, get_or, take, sym, refl, ap, ◌∙◌, subst, arith, get_or-set_other, get_or-set_same, below_more}
-use Rattle.field.specs.Sums.{total}
-use Rattle.array.specs.Cells.{normal, terms_of}
+use Rattle.std.proofs.Common.{ℕ, ◌+◌, ◌*◌, ◌<◌, ◌≢◌, length, get_or, take, sym, refl, ap, ◌∙◌, subst, arith, get_or-set_other, get_or-set_same, below_more}
+use Rattle.array.specs.Cells.{terms_of}
 use Rattle.array.specs.Buffers.{cell_at}
 use Rattle.array.specs.declared.plain.CellRow.{CellRow}
 use Rattle.array.proofs.CellsFacts.{terms_normal}

@@ -1,4 +1,4 @@
-use Rattle.std.proofs.Common.{◌≡◌, ℕ, length, get_or, ap, ◌∙◌}
+use Rattle.std.proofs.Common.{ℕ, length, get_or, ap, ◌∙◌}
 use Rattle.field.specs.Sums.{total}
 use Rattle.blocks.proofs.Adds.{total_more}
 use Rattle.coder.specs.Forms.{matrix}

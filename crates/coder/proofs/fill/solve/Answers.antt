@@ -1,4 +1,4 @@
-use Rattle.std.proofs.Common.{◌≡◌, ℕ, ◌<◌, length, get_or, ◌∙◌, arith}
+use Rattle.std.proofs.Common.{◌≡◌, ℕ, length, get_or, ◌∙◌, arith}
 use Rattle.algebra.specs.Solutions.{solved}
 use Rattle.coder.specs.Forms.{matrix}
 use Rattle.coder.proofs.Fills.{stored, is_free, is_taken, solved_at_free, solved_at_lead, lead_row_le}

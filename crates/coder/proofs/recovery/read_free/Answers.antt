@@ -1,4 +1,4 @@
-use Rattle.std.proofs.Common.{◌≡◌, ℕ, ◌+◌, ◌<◌, Bool, List, length, get_or, sym, ap, ◌∙◌, subst, arith}
+use Rattle.std.proofs.Common.{◌≡◌, ℕ, ◌+◌, Bool, List, length, get_or, sym, subst, arith}
 use Rattle.algebra.specs.Matrices.{free}
 use Rattle.coder.specs.Forms.{matrix}
 use Rattle.coder.proofs.Fills.{is_free, is_taken}

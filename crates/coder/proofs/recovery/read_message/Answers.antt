@@ -1,4 +1,4 @@
-use Rattle.std.proofs.Common.{◌≡◌, ℕ, ◌+◌, ◌-◌, ◌*◌, ◌<◌, ◌≤◌, Bool, List, length, get_or, take, drop, sym, ap, ◌∙◌, ap₂, add-one, arith, rules}
+use Rattle.std.proofs.Common.{◌≡◌, ℕ, ◌-◌, ◌*◌, ◌<◌, Bool, List, length, get_or, take, drop, sym, ap, ◌∙◌, ap₂, add-one, arith, rules}
 use Rattle.std.proofs.lemmas.List.{places, take_rest}
 use Rattle.field.specs.Meaning.{power}
 use Rattle.algebra.specs.Transforms.{root, spectrum}

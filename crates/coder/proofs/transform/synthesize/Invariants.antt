@@ -1,4 +1,4 @@
-use Rattle.std.proofs.Common.{◌≡◌, ℕ, length}
+use Rattle.std.proofs.Common.{◌≡◌, length}
 use Rattle.field.specs.Meaning.{power}
 use Rattle.algebra.specs.Transforms.{synthesis}
 use Rattle.coder.specs.Columns.{coefficient}

@@ -1,4 +1,3 @@
-use Rattle.std.proofs.Common.{arith}
 use Rattle.field.proofs.Logarithms.{power_is}
 use Rattle.field.proofs.tables.power_at.Goals as goal
 

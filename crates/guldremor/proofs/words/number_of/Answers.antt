@@ -8,30 +8,30 @@ use Rattle.guldremor.proofs.words.number_of.Goals.{then-b-lt48-via-then-b-lt48, 
 
 pub returns-then-b-lt48 : goal.returns-then-b-lt48
 returns-then-b-lt48 c =
-    let bs = c.as-bytes-bytes.result.now in
+    let bs = c.as_bytes-bytes.result.now in
     let i = c.loop-b.b-index in
     let w : (get_or bs i 0 < 48) ⊎ (57 < get_or bs i 0) =
     elim c.then-b-lt48.branch [
       | then-b-lt48-via-then-b-lt48 w ↦ inl w.if-b-lt48.true
       | then-b-lt48-via-else-b-lt48+then-b-gt57 w ↦ inr w.if-b-gt57.true
     ] in
-    ap numeral (sym c.as-bytes-bytes.ensures.value)
+    ap numeral (sym c.as_bytes-bytes.ensures.value)
     ∙ and_right (not (eqb (length bs) 0)) (digits bs) (no_digit bs i c.loop-b-test.true w)
 
 pub loop-b-preserved : goal.loop-b-preserved
 loop-b-preserved c =
-    let bs = c.as-bytes-bytes.result.now in
+    let bs = c.as_bytes-bytes.result.now in
     let i = c.loop-b.b-index in (
       digits_more bs i c.loop-b-test.true c.loop-b.invariant.0 c.if-b-lt48.false c.if-b-gt57.false,
-      value_more bs i c.loop-b.n c.append-digit-n.result c.loop-b-test.true c.loop-b.invariant.1 c.append-digit-n.ensures,
+      value_more bs i c.loop-b.n c.append_digit-n.result c.loop-b-test.true c.loop-b.invariant.1 c.append_digit-n.ensures,
     )
 
 pub returns : goal.returns
 returns c =
-    let bs = c.as-bytes-bytes.result.now in
+    let bs = c.as_bytes-bytes.result.now in
     let e : take c.loop-b.b-index bs ≡ bs = take_all c.loop-b.b-index bs c.loop-b-test.false in
-    let n : bs ≡ c.args.word.now = c.as-bytes-bytes.ensures.value in (
+    let n : bs ≡ c.args.word.now = c.as_bytes-bytes.ensures.value in (
       ap numeral (sym n)
-          ∙ and_from (not (eqb (length bs) 0)) (digits bs) (ap not (sym c.if-is-empty.ensures)) (ap digits (sym e) ∙ c.loop-b.invariant.0),
+          ∙ and_from (not (eqb (length bs) 0)) (digits bs) (ap not (sym c.if-is_empty.ensures)) (ap digits (sym e) ∙ c.loop-b.invariant.0),
       c.loop-b.invariant.1 ∙ ap (λ (xs : List ℕ). min (decimal 0 xs) (2 ^ 64 - 1)) (e ∙ n),
     )

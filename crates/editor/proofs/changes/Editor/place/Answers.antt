@@ -29,4 +29,5 @@ returns g c =
       model = followed f c.order-order.result c.order-order.ensures before after n (place c.args.row c.args.column c.args.cell.now.row) (Ok tt) done.model c.args.blocks.now
           c.rebuild.new.blocks built.0;
       same = refl;
+      shape = done.shape;
     }

@@ -1,5 +1,4 @@
 use Rattle.std.proofs.Common.{◌≡◌, ◌*◌, ◌%◌, ◌^◌, ◌<◌, sym, subst, arith}
-use lib.Bits.{bit_xor}
 use Rattle.field.specs.Doubles.{double_lt}
 use Rattle.field.specs.Powers.{order_high}
 use Rattle.field.proofs.Steps.{double_by_shift}

@@ -10,4 +10,5 @@ returns c =
       does = search rules;
       model = place_kept c.args.order c.args.blocks _ _ _ c.args.row c.args.column c.args.cell.now.row c.args.cell.now.keeps
           (search rules) (search rules);
+      shape = search rules;
     }

@@ -1,0 +1,28 @@
+use Rattle.std.proofs.Common.{◌≡◌, Some, Option, Ok, List, IsTrue, sym, ap, subst}
+use Rattle.field.specs.Meaning.{Meaning}
+use Rattle.array.specs.declared.plain.CellRow.{CellRow}
+use Rattle.code.specs.Checks.{Checked}
+use Rattle.guldremor.specs.declared.session.Drawn.{Drawn}
+use Rattle.guldremor.specs.Sessions.{meaning_of, chosen_of, drawn_shape, shape_of, is_over}
+use Rattle.guldremor.proofs.Overs.{over_field, checked_first}
+use Rattle.guldremor.proofs.session.Session.check.Goals as goal
+
+pub returns : goal.returns
+returns c =
+    let session = c.args.self.now in
+    let word = c.args.word.now in
+    let v = c.in_ok-check.field-0 in
+    let d = c.in-Some.drawn in
+    let e : session.drawn ≡ Some d = c.in-Some.is in
+    let o = over_field session.field d (subst (λ (x : Option Drawn). IsTrue (is_over session.field x)) e session.over) in
+    let s = drawn_shape d in
+    let lent : Checked (meaning_of (chosen_of d)) s.size s.rows s.columns c.lent_cells.result.now word (Ok v) = c.in_ok-check.ensures in
+    let chosen : Checked (meaning_of o.0) s.size s.rows s.columns c.lent_cells.result.now word (Ok v) =
+    subst (λ (m : Meaning). Checked m s.size s.rows s.columns c.lent_cells.result.now word (Ok v)) (sym o.2) lent in (
+      o.0,
+      s,
+      o.1,
+      ap shape_of e,
+      checked_first o.0 s session.lent.cells session.cells.items word v
+          (subst (λ (cells : List CellRow). Checked (meaning_of o.0) s.size s.rows s.columns cells word (Ok v)) c.lent_cells.ensures chosen),
+    )
