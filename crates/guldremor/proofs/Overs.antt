@@ -1,5 +1,5 @@
 -- A drawn array is over the field that was chosen, and what holds of the cells that are lent holds of all that the session has.
-use Rattle.std.proofs.Common.{◌≡◌, ℕ, ◌+◌, ◌*◌, ◌<◌, ◌≤◌, List, length, take, get_or, Some, None, Option, Ok, IsTrue, sym, refl, ap, ◌∙◌, subst, min, mul-le-mul_left, arith}
+use Rattle.std.proofs.Common.{◌≡◌, ℕ, ◌+◌, ◌*◌, ◌<◌, ◌≤◌, List, length, take, get_or, Some, None, Option, Ok, IsTrue, sym, refl, ap, ◌∙◌, mul-le-mul_left, arith}
 use Rattle.std.proofs.lemmas.Bool.{eqb-true}
 use Rattle.std.proofs.lemmas.Nat.{mul-add-lt}
 use Rattle.std.proofs.lemmas.List.{get_or-take, length-take}
@@ -13,7 +13,7 @@ use Rattle.array.specs.Cells.{terms_of}
 use Rattle.algebra.proofs.Sums.{total_same}
 use Rattle.code.specs.declared.receiver.Verdict.{Verdict}
 use Rattle.code.specs.declared.receiver.Verdict.TheVariants.{Passes, Fails}
-use Rattle.code.specs.Checks.{cell_sum, syndrome, Checked, FailsFirst}
+use Rattle.code.specs.Checks.{cell_sum, syndrome, Checked}
 use Rattle.guldremor.specs.declared.session.Chosen.{Chosen}
 use Rattle.guldremor.specs.declared.session.Chosen.TheVariants.{Shift, Table}
 use Rattle.guldremor.specs.declared.session.Drawn.{Drawn}

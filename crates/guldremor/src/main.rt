@@ -8,9 +8,9 @@ mod session;
 mod words;
 
 use answer::Trouble;
-use anyhow::anyhow;
 use session::Session;
 use std::io::{BufRead, BufReader, ErrorKind};
+use std::process::ExitCode;
 
 // Makes one line of the script and prints its answer; false where the line is no command.
 fn make_line(
@@ -67,13 +67,14 @@ fn make_script(rt: &HostRuntime) -> anyhow::Result<bool> {
     Ok(all)
 }
 
-fn main(rt: HostRuntime) -> anyhow::Result<()> {
+// The exit status is 1 where a line was no command, and where reading, printing or memory failed, which is told apart by its message.
+fn main(rt: HostRuntime) -> ExitCode {
     match make_script(&rt) {
-        Ok(true) => Ok(()),
-        Ok(false) => Err(anyhow!("a line was no command")),
+        Ok(true) => ExitCode::SUCCESS,
+        Ok(false) => ExitCode::FAILURE,
         Err(e) => {
-            eprintln!(rt; "guldremor: {e}")?;
-            Err(e)
+            let _ = eprintln!(rt; "guldremor: {e}");
+            ExitCode::FAILURE
         }
     }
 }
