@@ -1,6 +1,6 @@
 -- Drawings after changes: one more change, cells in a buffer, and that lawful changes keep a drawing lawful.
 use Rattle.std.proofs.Common.{◌≡◌, ℕ, ◌+◌, ◌*◌, ◌/◌, ◌%◌, ◌<◌, ◌≤◌, true, cond, ◌&&◌, eqb, ◌≢◌, List, [], ◌∷◌, ◌++◌, length, take, set, sym, refl, ap, ◌∙◌, arith}
-use Rattle.std.specs.List.{AllByRecursion as All}
+use Rattle.std.specs.List.{AllByRecursion}
 use Rattle.std.proofs.lemmas.Nat.{div-mul-add, mod-mul-add, mul-add-lt}
 use Rattle.std.proofs.ByRecursion.{All-take}
 use Rattle.std.proofs.lemmas.List.{take_more, get_or-set_same, get_or-set_other}
@@ -31,7 +31,7 @@ module _ (q rows columns : ℕ) where
   }
   changed_lawful d (resizes e) l c = record { size = c.0; shape = c.1; cells = l.cells }
 
-  pub drawn_lawful : (d : Drawing) (xs : List Change) → DrawingLawful q rows columns d → All (ChangeLawful q rows columns) xs
+  pub drawn_lawful : (d : Drawing) (xs : List Change) → DrawingLawful q rows columns d → AllByRecursion (ChangeLawful q rows columns) xs
       → DrawingLawful q rows columns (drawn d xs)
   drawn_lawful d [] l c = l
   drawn_lawful d (x ∷ xs) l c = drawn_lawful (changed d x) xs (changed_lawful d x l c.0) c.1

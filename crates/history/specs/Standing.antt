@@ -1,6 +1,6 @@
 -- What it means that a state in the buffers stands for a reference model. It speaks of the used places of the buffers only.
 use Rattle.std.specs.Prelude.{◌≡◌, ℕ, ◌*◌, ◌<◌, ◌≤◌, Bool, true, ◌&&◌, length, Result}
-use Rattle.std.specs.List.{AllByRecursion as All}
+use Rattle.std.specs.List.{AllByRecursion}
 use Rattle.std.specs.Result.{result_err}
 use Rattle.refusal.specs.declared.Refusal.{Refusal}
 use Rattle.array.specs.declared.plain.CellRow.{CellRow}
@@ -29,7 +29,7 @@ ChangeLawful q rows columns (resizes e) = (size_lawful q e ≡ true) × (shape_l
 -- every size and every cell along the history keeps the rules
 pub record ModelLawful (m : Model) : Type 0 where
   pub start : DrawingLawful m.q m.rows m.columns m.start
-  pub changes : All (ChangeLawful m.q m.rows m.columns) m.changes
+  pub changes : AllByRecursion (ChangeLawful m.q m.rows m.columns) m.changes
   pub in_force : m.in_force ≤ length m.changes
 
 -- the record of a change to a drawing
