@@ -90,3 +90,10 @@ module _ (r : ℕ) (lo : 2 ≤ r) (hi : r ≤ 9) where
 
   pub shift_binary : CharacteristicTwo (shift_field r)
   shift_binary = record { order_power = (r, refl); sum_self = λ a. xor_self (symbol r a) }
+
+-- the field that the table field computes is that of degree 9
+pub table_lawful : Lawful (shift_field 9)
+table_lawful = shift_lawful 9 (omega arith) (omega arith)
+
+pub table_binary : CharacteristicTwo (shift_field 9)
+table_binary = shift_binary 9 (omega arith) (omega arith)

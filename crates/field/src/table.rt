@@ -2,8 +2,7 @@
 ghost use Rattle.std.specs.Prelude.{◌≡◌, ◌<◌};
 ghost use Rattle.field.specs.Meaning.{Alike};
 ghost use Rattle.field.specs.Shift.{multiplied, raised, symbol, shift_field};
-ghost use Rattle.std.proofs.Common.{arith};
-ghost use Rattle.field.specs.Laws.{shift_lawful, shift_binary};
+ghost use Rattle.field.specs.Laws.{table_lawful, table_binary};
 
 use super::interface::{Field, Symbol};
 use super::shift::ShiftField;
@@ -56,9 +55,9 @@ fn invert(a: Symbol) -> Symbol
 impl Field for TableField {
     ghost meaning = { λ _. shift_field 9 };
 
-    ghost lawful = { λ f. shift_lawful 9 (omega arith) (omega arith) };
+    ghost lawful = { λ _. table_lawful };
 
-    ghost binary = { λ f. shift_binary 9 (omega arith) (omega arith) };
+    ghost binary = { λ _. table_binary };
 
     fn order(&self) -> u16 {
         ORDER

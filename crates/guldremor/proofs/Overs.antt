@@ -5,7 +5,7 @@ use Rattle.std.proofs.lemmas.Nat.{mul-add-lt}
 use Rattle.std.proofs.lemmas.List.{get_or-take, length-take}
 use Rattle.field.specs.Meaning.{Meaning, Lawful}
 use Rattle.field.specs.Shift.{shift_field}
-use Rattle.field.specs.Laws.{shift_lawful}
+use Rattle.field.specs.Laws.{shift_lawful, table_lawful}
 use Rattle.array.specs.declared.plain.CellRow.{CellRow}
 use Rattle.array.specs.declared.shape.Shape.{Shape}
 use Rattle.array.specs.Buffers.{blank, cell_at}
@@ -31,7 +31,7 @@ over_field (Some (Table f)) (OverTable e) h = (Table f, refl, refl)
 
 lawful_of : (f : Chosen) → Lawful (meaning_of f)
 lawful_of (Shift f) = shift_lawful f.degree f.degree_low f.degree_high
-lawful_of (Table f) = shift_lawful 9 (omega arith) (omega arith)
+lawful_of (Table f) = table_lawful
 
 -- a place of an array is among the first 512
 pub place_first : (s : Shape) (i j : ℕ) → i < s.rows → j < s.columns → i * s.columns + j < 512

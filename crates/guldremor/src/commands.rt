@@ -136,10 +136,7 @@ fn lend_room<'a>(
 }
 
 // show ROW COLUMN
-fn show_cell<'a>(
-    session: &mut Session,
-    mut words: SplitWhitespace<'a>,
-) -> Result<Answer, Trouble<'a>> {
+fn show_cell<'a>(session: &Session, mut words: SplitWhitespace<'a>) -> Result<Answer, Trouble<'a>> {
     let row = next_number(&mut words)?;
     let column = next_number(&mut words)?;
     expect_end(&mut words)?;
@@ -155,10 +152,7 @@ fn read_symbols<'a>(heap: Global, words: SplitWhitespace<'a>) -> Result<Vec<Symb
 }
 
 // check SYMBOL ..
-fn check_word<'a>(
-    session: &mut Session,
-    words: SplitWhitespace<'a>,
-) -> Result<Answer, Trouble<'a>> {
+fn check_word<'a>(session: &Session, words: SplitWhitespace<'a>) -> Result<Answer, Trouble<'a>> {
     let word = read_symbols(session.heap(), words)?;
     Ok(Answer::Verdict(session.check(word.as_slice())?))
 }

@@ -1,9 +1,10 @@
-use Rattle.std.proofs.Common.{◌≡◌, Some, Option, Ok, List, IsTrue, sym, ap, subst}
+use Rattle.std.proofs.Common.{take, refl, ◌≡◌, Some, Option, Ok, List, IsTrue, sym, ap, subst}
 use Rattle.field.specs.Meaning.{Meaning}
 use Rattle.array.specs.declared.plain.CellRow.{CellRow}
 use Rattle.code.specs.Checks.{Checked}
 use Rattle.guldremor.specs.declared.session.Drawn.{Drawn}
 use Rattle.guldremor.specs.Sessions.{meaning_of, chosen_of, drawn_shape, shape_of, is_over}
+use Rattle.guldremor.proofs.SessionsChecked.{verdict_stands}
 use Rattle.guldremor.proofs.Overs.{over_field, checked_first}
 use Rattle.guldremor.proofs.session.Session.check.Goals as goal
 
@@ -24,5 +25,6 @@ returns c =
       o.1,
       ap shape_of e,
       checked_first o.0 s session.lent.cells session.cells.items word v
-          (subst (λ (cells : List CellRow). Checked (meaning_of o.0) s.size s.rows s.columns cells word (Ok v)) c.lent_cells.ensures chosen),
+          (verdict_stands o.0 o.0 s.size s.rows s.columns c.lent_cells.result.now (take session.lent.cells session.cells.items) word v v refl
+          c.lent_cells.ensures refl chosen),
     )
