@@ -28,8 +28,26 @@ pub(crate) fn row_start(rows: usize, columns: usize, t: usize) -> usize
     t * columns
 }
 
-// The value at x of the polynomial in each column of a buffer of `rows` rows. The sums stand in an array of its own, which overlaps
-// neither the buffer nor the field: so the compiler can work on several columns at a time.
+// The value at x of the polynomial in each column of a buffer of `rows` rows, by Horner's rule in all columns at once.
+#[inline(always)]
+fn step_rows<F: Field>(f: &F, work: &[Symbol], rows: usize, x: Symbol, sums: &mut [Symbol])
+    requires { length work.now ≡ rows * length sums.old }
+    ensures { let m = F.Field.meaning f.now in
+        let columns = length sums.old in
+        ((j : ℕ) → j < columns → slice_index sums.new j ≡ value m rows (coefficient columns work.now j) x) }
+{
+    for sum in sums.iter_mut() {
+        *sum = 0;
+    }
+    let columns = sums.len();
+    for t in (0..rows).rev() {
+        let start = row_start(rows, columns, t);
+        step_row(f, sums, &work[start..start + columns], x);
+    }
+}
+
+// The same. Where an array of our own has room for the sums they are worked out there: it overlaps neither the buffer nor the field,
+// so the compiler can work on several columns at a time. No word has more than 64 columns.
 pub(crate) fn evaluate<F: Field>(
     f: &F,
     work: &[Symbol],
@@ -37,19 +55,19 @@ pub(crate) fn evaluate<F: Field>(
     x: Symbol,
     sums: &mut [Symbol],
 )
-    requires sized { length work.now ≡ rows * length sums.old }
-    requires few { length sums.old ≤ 64 }
+    requires { length work.now ≡ rows * length sums.old }
     ensures { let m = F.Field.meaning f.now in
         let columns = length sums.old in
         ((j : ℕ) → j < columns → slice_index sums.new j ≡ value m rows (coefficient columns work.now j) x) }
 {
     let columns = sums.len();
+    if columns > 64 {
+        step_rows(f, work, rows, x, sums);
+        return;
+    }
     let mut space = [0; 64];
     let own = &mut space[0..columns];
-    for t in (0..rows).rev() {
-        let start = row_start(rows, columns, t);
-        step_row(f, own, &work[start..start + columns], x);
-    }
+    step_rows(f, work, rows, x, own);
     sums.copy_from_slice(own);
 }
 

@@ -1,5 +1,5 @@
 -- A drawn array is over the field that was chosen, and what holds of the cells that are lent holds of all that the session has.
-use Rattle.std.proofs.Common.{◌≡◌, ℕ, ◌+◌, ◌*◌, ◌<◌, ◌≤◌, List, length, take, get_or, Some, None, Option, Ok, IsTrue, sym, refl, ap, ◌∙◌, mul-le-mul_left, arith}
+use Rattle.std.proofs.Common.{◌≡◌, ℕ, ◌+◌, ◌*◌, ◌<◌, ◌≤◌, List, length, take, get_or, Some, None, Option, Ok, IsTrue, sym, refl, ap, ◌∙◌, mul-le-mul_left, mul_comm, arith}
 use Rattle.std.proofs.lemmas.Bool.{eqb-true}
 use Rattle.std.proofs.lemmas.Nat.{mul-add-lt}
 use Rattle.std.proofs.lemmas.List.{get_or-take, length-take}
@@ -13,7 +13,8 @@ use Rattle.array.specs.Cells.{terms_of}
 use Rattle.algebra.proofs.Sums.{total_same}
 use Rattle.code.specs.declared.receiver.Verdict.{Verdict}
 use Rattle.code.specs.declared.receiver.Verdict.TheVariants.{Passes, Fails}
-use Rattle.code.specs.Checks.{cell_sum, syndrome, Checked}
+use Rattle.code.specs.Checks.{cell_sum, syndrome, PassesAll, Checked}
+use Rattle.code.proofs.Sums.{cell_sum_same}
 use Rattle.guldremor.specs.declared.session.Chosen.{Chosen}
 use Rattle.guldremor.specs.declared.session.Chosen.TheVariants.{Shift, Table}
 use Rattle.guldremor.specs.declared.session.Drawn.{Drawn}
@@ -72,3 +73,17 @@ checked_first c s n cells word (Fails i k x) h =
         before = λ m a. sym (same i m d.row_within) ∙ d.before m a;
       },
     )
+
+-- a word passes as it stands at the front of a longer buffer
+pub passes_taken : (c : Chosen) (s : Shape) (cells : List CellRow) (out : List ℕ) (n : ℕ) → n ≡ s.columns * s.size
+    → PassesAll (meaning_of c) s.size s.rows s.columns cells out → PassesAll (meaning_of c) s.size s.rows s.columns cells (take n out)
+passes_taken c s cells out n e h i k a b =
+    let f = meaning_of c in
+    let w = lawful_of c in
+    total_same f w s.columns
+    (λ j. cell_sum f s.size (terms_of (cell_at s.columns cells i j)) (λ l. get_or (take n out) (j * s.size + l) 0) k)
+    (λ j. cell_sum f s.size (terms_of (cell_at s.columns cells i j)) (λ l. get_or out (j * s.size + l) 0) k)
+    (λ j g. cell_sum_same f w s.size (terms_of (cell_at s.columns cells i j)) (λ l. get_or (take n out) (j * s.size + l) 0)
+    (λ l. get_or out (j * s.size + l) 0) k s.size_low
+    (λ l m. get_or-take n out (j * s.size + l) 0 (omega (arith, e, mul-add-lt j s.size l s.columns g m, mul_comm s.size s.columns))))
+    ∙ h i k a b

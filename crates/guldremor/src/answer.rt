@@ -4,7 +4,6 @@ ghost use Rattle.std.specs.Prelude.{◌≡◌, ◌+◌, ◌*◌, ◌/◌, ◌<�
 use array::{Cell, CellRow};
 use code::Verdict;
 use coder::Unrecovered;
-use editor::Parameters;
 use field::Symbol;
 use refusal::Refusal;
 use std::alloc::{AllocError, AllocFailed};
@@ -20,7 +19,12 @@ pub enum Answer {
     Word(Vec<Symbol>),
     Message(Vec<Symbol>),
     Sizes(Vec<SizeLine>),
-    Size(Parameters),
+    Size {
+        size: usize,
+        rows: usize,
+        columns: usize,
+        dimension: usize,
+    },
 }
 
 // One line of the table of sizes.
@@ -144,13 +148,12 @@ impl fmt::Display for Answer {
             Answer::Word(word) => write_symbols(f, "word", word.as_slice()),
             Answer::Message(message) => write_symbols(f, "message", message.as_slice()),
             Answer::Sizes(lines) => write_sizes(f, lines.as_slice()),
-            Answer::Size(p) => {
-                let size = p.size;
-                let rows = p.rows;
-                let columns = p.columns;
-                let dimension = p.dimension;
-                write!(f, "size {size} {rows} {columns} {dimension}")
-            }
+            Answer::Size {
+                size,
+                rows,
+                columns,
+                dimension,
+            } => write!(f, "size {size} {rows} {columns} {dimension}"),
             Answer::Verdict(Verdict::Passes) => write!(f, "passes"),
             Answer::Verdict(Verdict::Fails { row, s, syndrome }) => write!(
                 f,

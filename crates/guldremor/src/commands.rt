@@ -190,5 +190,11 @@ fn show_size<'a>(
     mut words: SplitWhitespace<'a>,
 ) -> Result<Answer, Trouble<'a>> {
     expect_end(&mut words)?;
-    Ok(Answer::Size(session.parameters()?))
+    let (size, rows, columns, dimension) = session.dimension()?;
+    Ok(Answer::Size {
+        size,
+        rows,
+        columns,
+        dimension,
+    })
 }

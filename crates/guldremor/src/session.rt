@@ -1,15 +1,15 @@
 // What a script has set up so far: a field, an editor over it, and the buffers that are lent to the editor's calls.
-ghost use Rattle.std.specs.Prelude.{◌≡◌, ◌≤◌, length, take, Some, None, Ok, MatchResult, IfOk, IsTrue};
-ghost use Rattle.array.specs.declared.shape.Shape.{Shape};
+ghost use Rattle.std.specs.Prelude.{◌≡◌, ◌-◌, ◌*◌, ◌%◌, ◌≤◌, length, take, Some, None, Ok, MatchResult, IfOk, OnOk, IsTrue};
 ghost use Rattle.array.specs.Buffers.{show_refusal, cell_at};
 ghost use Rattle.array.specs.Cells.{normal};
-ghost use Rattle.code.specs.Checks.{Checked};
+ghost use Rattle.code.specs.Checks.{Checked, PassesAll};
 ghost use Rattle.guldremor.specs.Sessions.{meaning_of, chosen_of, drawn_shape, shape_of, is_over};
 
 use super::answer::{SizeLine, Trouble};
-use array::{Cell, CellRow, Term};
+use array::{Cell, CellRow, Shape, Term};
+use blocks::build_forms;
 use code::Verdict;
-use editor::{Editor, Parameters};
+use editor::Editor;
 use field::{Field, ShiftField, Symbol, TableField};
 use history::ChangeRecord;
 use refusal::Refusal;
@@ -113,6 +113,30 @@ impl Drawn {
             Checked (meaning_of (chosen_of self.now)) s.size s.rows s.columns cells.now word.now result }
     {
         on_editor!(*self, e => e.check(cells, word))
+    }
+
+    // The word of a message, into `out`.
+    fn encode(
+        &self,
+        cells: &[CellRow],
+        blocks: &mut [Symbol],
+        message: &[Symbol],
+        out: &mut [Symbol],
+        work: &mut [Symbol],
+    ) -> Result<(), Refusal>
+        ensures { let s = drawn_shape self.now in
+            let m = meaning_of (chosen_of self.now) in
+            OnOk result ((m.q - 1) % s.size ≡ 0 → PassesAll m s.size s.rows s.columns cells.now out.new) }
+    {
+        on_editor!(*self, e => send(e.field(), &e.history().shape(), cells, blocks, message, out, work))
+    }
+
+    // The number of symbols of a word.
+    fn word_length(&self) -> usize
+        ensures { let s = drawn_shape self.now in result ≡ s.columns * s.size }
+    {
+        let shape = on_editor!(*self, e => e.history().shape());
+        shape.columns() * shape.size()
     }
 }
 
@@ -351,12 +375,14 @@ impl Session {
         }
     }
 
-    pub fn parameters(&mut self) -> Result<Parameters, Trouble<'static>> {
+    // The circulant size, the rows and columns of the array, and the dimension.
+    pub fn dimension(&mut self) -> Result<(usize, usize, usize, usize), Trouble<'static>> {
         let Some(drawn) = self.drawn else {
             return Err(missing(self.field.is_some()));
         };
         let blocks = front(self.blocks.as_mut_slice(), self.lent.blocks);
-        Ok(on_editor!(drawn, e => e.size(blocks)?))
+        let p = on_editor!(drawn, e => e.size(blocks)?);
+        Ok((p.size, p.rows, p.columns, p.dimension))
     }
 
     pub fn check(&self, word: &[Symbol]) -> Result<Verdict, Trouble<'static>>
@@ -370,16 +396,22 @@ impl Session {
         Ok(drawn.check(self.lent_cells(), word)?)
     }
 
-    pub fn encode(&mut self, message: &[Symbol]) -> Result<Vec<Symbol>, Trouble<'static>> {
+    // The word of a message: it passes every parity check of the array that is drawn.
+    pub fn encode(&mut self, message: &[Symbol]) -> Result<Vec<Symbol>, Trouble<'static>>
+        ensures { let d = self.old in
+            IfOk result (λ word. (f : Chosen) × (s : Shape) × (d.field ≡ Some f) × (shape_of d.drawn ≡ Some s)
+            × (((meaning_of f).q - 1) % s.size ≡ 0 →
+            PassesAll (meaning_of f) s.size s.rows s.columns d.cells.items word.items)) }
+    {
         let Some(drawn) = self.drawn else {
             return Err(missing(self.field.is_some()));
         };
+        let cells = self.cells.as_slice();
         let blocks = front(self.blocks.as_mut_slice(), self.lent.blocks);
         let out = front(self.out.as_mut_slice(), self.lent.out);
         let work = front(self.work.as_mut_slice(), self.lent.work);
-        on_editor!(drawn, e => e.encode(blocks, message, out, work)?);
-        let shape = on_editor!(drawn, e => e.history().shape());
-        Ok(copied(self.heap, out, shape.columns() * shape.size())?)
+        drawn.encode(cells, blocks, message, out, work)?;
+        Ok(copied(self.heap, out, drawn.word_length())?)
     }
 
     pub fn recover(&mut self, word: &[Symbol]) -> Result<Vec<Symbol>, Trouble<'static>> {
@@ -403,6 +435,24 @@ impl Session {
         let spare = self.spare.as_mut_slice();
         on_editor!(drawn, e => list_sizes(self.heap, &e, cells, spare))
     }
+}
+
+// The forms are built anew from the cells for each word: nothing of an earlier array can be left in them.
+fn send<F: Field>(
+    f: &F,
+    shape: &Shape,
+    cells: &[CellRow],
+    blocks: &mut [Symbol],
+    message: &[Symbol],
+    out: &mut [Symbol],
+    work: &mut [Symbol],
+) -> Result<(), Refusal>
+    ensures { let s = shape.now in
+        let m = F.Field.meaning f.now in
+        OnOk result ((m.q - 1) % s.size ≡ 0 → PassesAll m s.size s.rows s.columns cells.now out.new) }
+{
+    build_forms(f, shape, cells, blocks)?;
+    coder::encode(f, shape, blocks, message, out, work)
 }
 
 fn list_sizes<F: Field>(
@@ -431,7 +481,9 @@ fn list_sizes<F: Field>(
 }
 
 // The first `n` symbols, or all where there are fewer, in a list of their own.
-fn copied(heap: Global, symbols: &[Symbol], n: usize) -> Result<Vec<Symbol>, AllocError> {
+fn copied(heap: Global, symbols: &[Symbol], n: usize) -> Result<Vec<Symbol>, AllocError>
+    ensures { IfOk result (λ list. list.items ≡ take n symbols.now) }
+{
     let mut list = Vec::new(heap);
     list.extend_from_slice(&symbols[..n.min(symbols.len())])?;
     Ok(list)

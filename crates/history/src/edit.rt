@@ -39,7 +39,7 @@ impl History {
         blocks: usize,
         records: usize,
     ) -> Result<Self, Refusal>
-        ensures says { result_err result ≡ new_refusal order (record { cells = length cells.entry.now; blocks = blocks; records = records }) size rows columns }
+        ensures says { result_err result ≡ new_refusal order (record { cells = length cells.old; blocks = blocks; records = records }) size rows columns }
         ensures does { let was = cells.old in
             MatchResult result
             (λ h. (h.shape.size ≡ size) × (h.shape.rows ≡ rows) × (h.shape.columns ≡ columns)

@@ -1,6 +1,5 @@
-use Rattle.std.proofs.Common.{take, refl, ◌≡◌, Some, Option, Ok, List, IsTrue, sym, ap, subst}
+use Rattle.std.proofs.Common.{take, refl, ◌≡◌, Some, Option, Ok, IsTrue, sym, ap, subst}
 use Rattle.field.specs.Meaning.{Meaning}
-use Rattle.array.specs.declared.plain.CellRow.{CellRow}
 use Rattle.code.specs.Checks.{Checked}
 use Rattle.guldremor.specs.declared.session.Drawn.{Drawn}
 use Rattle.guldremor.specs.Sessions.{meaning_of, chosen_of, drawn_shape, shape_of, is_over}
