@@ -6,8 +6,10 @@ usage: python3 tools/snake_case.py [TOP]     at the top of the repository, or wi
 A name is the repository's own where a file of specs/ or proofs/ declares it, or where an import gives it by 'as'. A goal's name, which
 the toolchain makes, stays: it is one that is answered with 'goal.'. A dash in a name of a value becomes an underscore; in a name of
 a module or a type the word after it gets a capital. Names of src/ are not touched. A lemma that would get the name of a function of
-src/, which stands in paths as a module, gets '_lem' behind it. If another two names would fall together they are listed, and nothing
-is written.
+src/, which stands in paths as a module, gets '_lem' behind it; where such a name follows a dot it is a step of a proof, and stays. If
+another two names would fall together they are listed, and nothing is written; but a name may become that of a field of a struct of src/,
+since fields of different types may share one. In .rt files, too, the names stand in clauses, so these are written as well; whole lines of
+comment stay.
 """
 
 import os
@@ -113,7 +115,9 @@ def main():
     lemmas = {name for name, to in names.items() if to not in fields and own.get(to, set()) & homes[name]}
     names.update((name, new_name(name) + "_lem") for name in lemmas)
     clash = sorted(f"{a} -> {b}" for a, b in names.items() if b in seen and b not in fields)
-    if len(set(names.values())) != len(names) or clash:
+    twice = [name for name in names if list(names.values()).count(names[name]) > 1]
+    clash += sorted(f"{name} -> {names[name]}" for name in twice)
+    if clash:
         print("these would fall together with another name:")
         print("\n".join(clash))
         return 1
