@@ -1,8 +1,10 @@
 -- What the shift field's functions compute, as facts on numbers.
-use Rattle.std.proofs.Common.{◌≡◌, ℕ, zero, suc, ◌+◌, ◌-◌, ◌*◌, ◌/◌, ◌%◌, ◌^◌, ◌<◌, ◌≤◌, sym, refl, ap, ◌∙◌, mod-eq_of_lt, pow-suc, add-one, arith, pow_pos}
+use Rattle.std.proofs.Common.{◌≡◌, ℕ, zero, suc, ◌+◌, ◌-◌, ◌*◌, ◌/◌, ◌%◌, ◌^◌, ◌<◌, ◌≤◌, sym, refl, ap, ◌∙◌, mod-eq_of_lt, add-zero, add-suc, pow_mono, pow-suc, add-one, arith, pow_pos}
 use lib.Bits.{bit_and, bit_xor, and_comm, and_mask}
-use Rattle.field.specs.Shift.{polynomial, pick, double, multiplied, raised}
-use Rattle.field.specs.Products.{multiples, multiples_all, product_one_left}
+use Rattle.std.proofs.Math.Nat.{div-eq_of_lt}
+use Rattle.std.specs.Int.Bits.{xor_zero_r}
+use Rattle.field.specs.Shift.{polynomial, pick, xors, double, scaled, multiplied, raised}
+use Rattle.field.specs.Products.{product_one_left}
 use Rattle.field.specs.Powers.{order_low, product_comm, raised_add}
 
 two_le : (k : ℕ) → 1 ≤ k → 2 ≤ 2 ^ k
@@ -17,6 +19,29 @@ masked (suc (suc n)) a h l = absurd (omega arith)
 pub double_by_shift : (r a d s : ℕ) → d ≡ 2 * a → s ≡ pick (d / 2 ^ r) (polynomial r) → bit_xor d s ≡ double r a
 unfolding double
 double_by_shift r a d s e h = cc
+
+-- the sum of the multiples of a at the lowest n bits of b
+abbrev pub multiples : ℕ → ℕ → ℕ → ℕ → ℕ
+multiples r n a b = xors n (λ i. pick (b / 2 ^ i % 2) (scaled r i a))
+
+pub multiples_none : (r a b : ℕ) → 0 ≡ multiples r 0 a b
+unfolding xors
+multiples_none r a b = refl
+
+pub multiples_next : (r n a b : ℕ) → multiples r (suc n) a b ≡ bit_xor (multiples r n a b) (pick (b / 2 ^ n % 2) (scaled r n a))
+unfolding xors
+multiples_next r n a b = refl
+
+-- past its highest bit, b adds nothing
+pub multiples_all : (r k a b : ℕ) → b < 2 ^ r → multiples r (r + k) a b ≡ multiplied r a b
+unfolding multiplied
+multiples_all r zero a b h = ap (λ (n : ℕ). multiples r n a b) (add-zero r)
+multiples_all r (suc k) a b h =
+    let m : 2 ^ r ≤ 2 ^ (r + k) = pow_mono (omega arith) in
+    let z : b / 2 ^ (r + k) ≡ 0 = div-eq_of_lt (omega arith) in
+    ap (λ (n : ℕ). multiples r n a b) (add-suc r k) ∙ multiples_next r (r + k) a b
+    ∙ ap (λ (x : ℕ). bit_xor (multiples r (r + k) a b) (pick (x % 2) (scaled r (r + k) a))) z
+    ∙ xor_zero_r (multiples r (r + k) a b) ∙ multiples_all r k a b h
 
 module _ (r : ℕ) (lo : 2 ≤ r) (hi : r ≤ 9) where
   -- after nine bits the sum is the product, with its factors exchanged

@@ -1,10 +1,9 @@
--- The product of the shift field: additive, zero, one, times x, and its sum bit by bit.
-use Rattle.std.specs.Prelude.{◌≡◌, ℕ, zero, suc, ◌+◌, ◌/◌, ◌%◌, ◌^◌, ◌<◌, ◌≤◌, bit_xor}
+-- The product of the shift field: additive, zero, one, and times x.
+use Rattle.std.specs.Prelude.{◌≡◌, ℕ, zero, suc, ◌/◌, ◌%◌, ◌^◌, ◌<◌, ◌≤◌, bit_xor}
 use Rattle.std.proofs.Math.Path.{refl, sym, ap}
-use Rattle.std.proofs.Common.{◌∙◌, arith, mod-eq_of_lt, add-zero, add-suc, pow_mono}
-use Rattle.std.proofs.Math.Nat.{zero-div, div-eq_of_lt}
-use Rattle.std.specs.Int.Bits.{xor_zero_r}
-use Rattle.field.specs.Shift.{pick, xors, double, scaled, multiplied}
+use Rattle.std.proofs.Common.{◌∙◌, mod-eq_of_lt}
+use Rattle.std.proofs.Math.Nat.{zero-div}
+use Rattle.field.specs.Shift.{pick, double, scaled, multiplied}
 use Rattle.field.specs.Xors.{pick_xor, pick_lt, pick_zero, digit_lt, digit_xor, xors_same, xors_lt, xors_xor, xors_zero, xors_bits}
 use Rattle.field.specs.Doubles.{double_pick, scaled_lt, double_xors, scaled_zero, scaled_double, scaled_one}
 
@@ -37,29 +36,6 @@ product_one_left r b h =
     xors_same r (λ i. pick (b / 2 ^ i % 2) (scaled r i 1)) (λ i. pick (b / 2 ^ i % 2) (2 ^ i))
     (λ i l. ap (pick (b / 2 ^ i % 2)) (scaled_one r i l))
     ∙ xors_bits r b ∙ mod-eq_of_lt h
-
--- the sum of the multiples of a at the lowest n bits of b
-abbrev pub multiples : ℕ → ℕ → ℕ → ℕ → ℕ
-multiples r n a b = xors n (λ i. pick (b / 2 ^ i % 2) (scaled r i a))
-
-pub multiples_none : (r a b : ℕ) → 0 ≡ multiples r 0 a b
-unfolding xors
-multiples_none r a b = refl
-
-pub multiples_next : (r n a b : ℕ) → multiples r (suc n) a b ≡ bit_xor (multiples r n a b) (pick (b / 2 ^ n % 2) (scaled r n a))
-unfolding xors
-multiples_next r n a b = refl
-
--- past its highest bit, b adds nothing
-pub multiples_all : (r k a b : ℕ) → b < 2 ^ r → multiples r (r + k) a b ≡ multiplied r a b
-unfolding multiplied
-multiples_all r zero a b h = ap (λ (n : ℕ). multiples r n a b) (add-zero r)
-multiples_all r (suc k) a b h =
-    let m : 2 ^ r ≤ 2 ^ (r + k) = pow_mono (omega arith) in
-    let z : b / 2 ^ (r + k) ≡ 0 = div-eq_of_lt (omega arith) in
-    ap (λ (n : ℕ). multiples r n a b) (add-suc r k) ∙ multiples_next r (r + k) a b
-    ∙ ap (λ (x : ℕ). bit_xor (multiples r (r + k) a b) (pick (x % 2) (scaled r (r + k) a))) z
-    ∙ xor_zero_r (multiples r (r + k) a b) ∙ multiples_all r k a b h
 
 module _ (r : ℕ) (lo : 2 ≤ r) (hi : r ≤ 9) where
   pub product_lt : (a b : ℕ) → a < 2 ^ r → multiplied r a b < 2 ^ r

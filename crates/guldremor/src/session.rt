@@ -50,26 +50,6 @@ macro_rules! on_editor {
     };
 }
 
-// A change of the editor of a session, whatever its answer is.
-macro_rules! change_editor {
-    ($session:expr, $drawn:expr, $editor:ident => $call:expr) => {
-        match $drawn {
-            Drawn::Shift(held) => {
-                let mut $editor = held;
-                let answer = $call;
-                $session.drawn = Some(Drawn::Shift($editor));
-                answer?
-            }
-            Drawn::Table(held) => {
-                let mut $editor = held;
-                let answer = $call;
-                $session.drawn = Some(Drawn::Table($editor));
-                answer?
-            }
-        }
-    };
-}
-
 impl Drawn {
     // Puts a cell at a place of the array.
     fn place(
@@ -83,10 +63,44 @@ impl Drawn {
     ) -> Result<(), Refusal>
         ensures { (chosen_of self.new ≡ chosen_of self.old) × (drawn_shape self.new ≡ drawn_shape self.old) }
     {
-        match self {
-            Drawn::Shift(e) => e.place(cells, blocks, records, row, column, cell),
-            Drawn::Table(e) => e.place(cells, blocks, records, row, column, cell),
-        }
+        on_editor!(self, e => e.place(cells, blocks, records, row, column, cell))
+    }
+
+    // Takes another circulant size.
+    fn resize(
+        &mut self,
+        cells: &[CellRow],
+        blocks: &mut [Symbol],
+        records: &mut [ChangeRecord],
+        size: usize,
+    ) -> Result<(), Refusal>
+        ensures { chosen_of self.new ≡ chosen_of self.old }
+    {
+        on_editor!(self, e => e.resize(cells, blocks, records, size))
+    }
+
+    // Undoes the last change in force.
+    fn undo(
+        &mut self,
+        cells: &mut [CellRow],
+        blocks: &mut [Symbol],
+        records: &[ChangeRecord],
+    ) -> Result<(), Refusal>
+        ensures { chosen_of self.new ≡ chosen_of self.old }
+    {
+        on_editor!(self, e => e.undo(cells, blocks, records))
+    }
+
+    // Redoes the first change that is not in force.
+    fn redo(
+        &mut self,
+        cells: &mut [CellRow],
+        blocks: &mut [Symbol],
+        records: &[ChangeRecord],
+    ) -> Result<(), Refusal>
+        ensures { chosen_of self.new ≡ chosen_of self.old }
+    {
+        on_editor!(self, e => e.redo(cells, blocks, records))
     }
 
     // Fills the caller's cell with the one at a place of the array.
@@ -303,10 +317,9 @@ impl Session {
     ) -> Result<(), Trouble<'static>>
         ensures { (self.new.field ≡ self.old.field) × (shape_of self.new.drawn ≡ shape_of self.old.drawn) }
     {
-        let Some(held) = self.drawn else {
+        let Some(mut drawn) = self.drawn else {
             return Err(missing(self.field.is_some()));
         };
-        let mut drawn = held;
         let mut cell = Cell::empty();
         cell.fill(terms)?;
         let cells = front(self.cells.as_mut_slice(), self.lent.cells);
@@ -318,36 +331,48 @@ impl Session {
         Ok(())
     }
 
-    pub fn resize(&mut self, size: usize) -> Result<(), Trouble<'static>> {
-        let Some(drawn) = self.drawn else {
+    pub fn resize(&mut self, size: usize) -> Result<(), Trouble<'static>>
+        ensures { self.new.field ≡ self.old.field }
+    {
+        let Some(mut drawn) = self.drawn else {
             return Err(missing(self.field.is_some()));
         };
         let cells = front(self.cells.as_mut_slice(), self.lent.cells);
         let blocks = front(self.blocks.as_mut_slice(), self.lent.blocks);
         let records = front(self.records.as_mut_slice(), self.lent.records);
-        change_editor!(self, drawn, e => e.resize(cells, blocks, records, size));
+        let answer = drawn.resize(cells, blocks, records, size);
+        self.drawn = Some(drawn);
+        answer?;
         Ok(())
     }
 
-    pub fn undo(&mut self) -> Result<(), Trouble<'static>> {
-        let Some(drawn) = self.drawn else {
+    pub fn undo(&mut self) -> Result<(), Trouble<'static>>
+        ensures { self.new.field ≡ self.old.field }
+    {
+        let Some(mut drawn) = self.drawn else {
             return Err(missing(self.field.is_some()));
         };
         let cells = front(self.cells.as_mut_slice(), self.lent.cells);
         let blocks = front(self.blocks.as_mut_slice(), self.lent.blocks);
         let records = front(self.records.as_mut_slice(), self.lent.records);
-        change_editor!(self, drawn, e => e.undo(cells, blocks, records));
+        let answer = drawn.undo(cells, blocks, records);
+        self.drawn = Some(drawn);
+        answer?;
         Ok(())
     }
 
-    pub fn redo(&mut self) -> Result<(), Trouble<'static>> {
-        let Some(drawn) = self.drawn else {
+    pub fn redo(&mut self) -> Result<(), Trouble<'static>>
+        ensures { self.new.field ≡ self.old.field }
+    {
+        let Some(mut drawn) = self.drawn else {
             return Err(missing(self.field.is_some()));
         };
         let cells = front(self.cells.as_mut_slice(), self.lent.cells);
         let blocks = front(self.blocks.as_mut_slice(), self.lent.blocks);
         let records = front(self.records.as_mut_slice(), self.lent.records);
-        change_editor!(self, drawn, e => e.redo(cells, blocks, records));
+        let answer = drawn.redo(cells, blocks, records);
+        self.drawn = Some(drawn);
+        answer?;
         Ok(())
     }
 

@@ -1,8 +1,8 @@
 use Rattle.std.proofs.Common.{◌≡◌, ℕ, suc, ◌+◌, ◌/◌, ◌^◌, ◌<◌, sym, refl, ap, ◌∙◌, subst, ap₂, add-one, arith}
 use lib.Bits.{bit_xor, and_mask}
 use Rattle.field.specs.Shift.{pick, double, scaled}
-use Rattle.field.specs.Products.{multiples, multiples_none, multiples_next, product_lt}
-use Rattle.field.proofs.Steps.{nine_bits}
+use Rattle.field.specs.Products.{product_lt}
+use Rattle.field.proofs.Steps.{multiples, multiples_none, multiples_next, nine_bits}
 use Rattle.field.proofs.shift.ShiftField.multiply.Goals as goal
 
 pub loop-i-init : goal.loop-i-init

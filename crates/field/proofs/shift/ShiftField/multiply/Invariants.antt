@@ -1,6 +1,6 @@
 use Rattle.std.proofs.Common.{◌≡◌, ◌^◌, ◌<◌}
 use Rattle.field.specs.Shift.{scaled}
-use Rattle.field.specs.Products.{multiples}
+use Rattle.field.proofs.Steps.{multiples}
 use Rattle.field.proofs.shift.ShiftField.multiply.Given as goal
 
 abbrev pub invariant-loop-i : goal.invariant-loop-i
