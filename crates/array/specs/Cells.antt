@@ -1,5 +1,6 @@
 -- The rules for cells, and what a plain row means.
 use Rattle.std.specs.Prelude.{ℕ, ◌+◌, Bool, true, cond, ◌&&◌, List, [], ◌∷◌, ◌++◌, length, take, drop, replicate, ◌==◌, nat_le, nat_lt}
+use Rattle.std.specs.List.{list_all}
 use Rattle.array.specs.declared.plain.Term.{Term}
 use Rattle.array.specs.declared.plain.CellRow.{CellRow}
 
@@ -26,8 +27,7 @@ empty = packed []
 
 -- every term is the one of an unused place
 abbrev pub unused : List Term → Bool
-unused [] = true
-unused (t ∷ ts) = t.shift == 0 && (t.coefficient == 0 && unused ts)
+unused ts = list_all (λ t. t.shift == 0 && t.coefficient == 0) ts
 
 -- the row of some cell: a lawful list of terms, the unused places 0
 abbrev pub sound : CellRow → Bool
@@ -43,5 +43,4 @@ terms_of r = cond (sound r) (take r.count r.terms) []
 
 -- every coefficient is below q
 abbrev pub below : ℕ → List Term → Bool
-below q [] = true
-below q (t ∷ ts) = nat_lt t.coefficient q && below q ts
+below q ts = list_all (λ t. nat_lt t.coefficient q) ts

@@ -6,10 +6,8 @@ ghost use Rattle.array.specs.Cells.{normal};
 use super::cell::Cell;
 use super::plain::CellRow;
 use super::rules::is_below;
-use super::shape::Shape;
+use super::shape::{CELLS, Shape};
 use refusal::Refusal;
-
-const CELLS: usize = 512;
 
 // Judges a place of the array in a buffer of `cells` rows, and says where it stands there.
 fn locate(shape: &Shape, cells: usize, row: usize, column: usize) -> Result<usize, Refusal>
@@ -22,10 +20,7 @@ fn locate(shape: &Shape, cells: usize, row: usize, column: usize) -> Result<usiz
     if cells < CELLS {
         return Err(Refusal::Buffer);
     }
-    if row >= shape.rows() || column >= shape.columns() {
-        return Err(Refusal::Place);
-    }
-    Ok(row * shape.columns() + column)
+    shape.place_of(row, column).ok_or(Refusal::Place)
 }
 
 // Puts a cell at a place of the array, for a field of `order` symbols.
@@ -71,6 +66,6 @@ pub fn show(
         (λ x. (answer ≡ Some x) × (cell.new.row ≡ cell.old.row)) }
 {
     let k = locate(shape, cells.len(), row, column)?;
-    *cell = Cell::of_row(cells[k]);
+    *cell = Cell::from(cells[k]);
     Ok(())
 }

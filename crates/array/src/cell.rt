@@ -7,7 +7,7 @@ use super::plain::{CellRow, Term};
 use super::rules::{is_lawful, is_sound};
 use refusal::Refusal;
 
-#[derive(Clone, Copy)]
+#[derive(Clone, Copy, PartialEq, Eq, Debug)]
 pub struct Cell {
     row: CellRow,
     ghost keeps: { sound row ≡ true },
@@ -39,29 +39,8 @@ impl Cell {
             (λ _. (lawful ts ≡ true) × (self.new.row ≡ packed ts))
             (λ x. (lawful ts ≡ false) × (x ≡ CellRule) × (self.new.row ≡ self.old.row)) }
     {
-        if !is_lawful(terms) {
-            return Err(Refusal::Cell);
-        }
-        let mut places = [NO_TERM; 4];
-        places[..terms.len()].copy_from_slice(terms);
-        *self = Cell {
-            row: CellRow {
-                count: terms.len() as u8,
-                terms: places,
-            },
-        };
+        *self = Cell::try_from(terms)?;
         Ok(())
-    }
-
-    // The cell that a row is read as: the empty cell where the row breaks a rule for cells.
-    pub fn of_row(row: CellRow) -> Self
-        ensures { result.row ≡ normal row }
-    {
-        if is_sound(&row) {
-            Cell { row }
-        } else {
-            Cell::empty()
-        }
     }
 
     // The row that a buffer holds for this cell.
@@ -76,5 +55,41 @@ impl Cell {
         ensures { result.now ≡ take self.now.row.count self.now.row.terms }
     {
         &self.row.terms[..self.row.count as usize]
+    }
+}
+
+// The cell that a row is read as: the empty cell where the row breaks a rule for cells.
+impl From<CellRow> for Cell {
+    ghost from_gives = { λ row c. c.row ≡ normal row };
+
+    fn from(row: CellRow) -> Self {
+        if is_sound(&row) {
+            Cell { row }
+        } else {
+            Cell::empty()
+        }
+    }
+}
+
+// The cell of a list of terms. Refuses with Cell where the list breaks a rule for cells.
+impl<'a> TryFrom<&'a [Term]> for Cell {
+    type Error = Refusal;
+
+    ghost try_from_gives = { λ terms r. MatchResult r
+        (λ c. (lawful terms.now ≡ true) × (c.row ≡ packed terms.now))
+        (λ x. (lawful terms.now ≡ false) × (x ≡ CellRule)) };
+
+    fn try_from(terms: &'a [Term]) -> Result<Self, Refusal> {
+        if !is_lawful(terms) {
+            return Err(Refusal::Cell);
+        }
+        let mut places = [NO_TERM; 4];
+        places[..terms.len()].copy_from_slice(terms);
+        Ok(Cell {
+            row: CellRow {
+                count: terms.len() as u8,
+                terms: places,
+            },
+        })
     }
 }

@@ -13,4 +13,4 @@ pub use buffer::{place, show};
 pub use cell::Cell;
 pub use plain::{CellRow, Term};
 pub use rules::is_below;
-pub use shape::Shape;
+pub use shape::{BLOCK_SYMBOLS, CELLS, Shape};

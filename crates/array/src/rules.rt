@@ -37,22 +37,12 @@ pub fn is_sound(row: &CellRow) -> bool
 fn is_unused(terms: &[Term]) -> bool
     ensures { result ≡ unused terms.now }
 {
-    for term in terms {
-        if term.shift != 0 || term.coefficient != 0 {
-            return false;
-        }
-    }
-    true
+    terms.iter().all(|t| t.shift == 0 && t.coefficient == 0)
 }
 
 // Are all coefficients below `order`, the number of symbols of a field?
 pub fn is_below(terms: &[Term], order: u16) -> bool
     ensures { result ≡ below order terms.now }
 {
-    for term in terms {
-        if term.coefficient >= order {
-            return false;
-        }
-    }
-    true
+    terms.iter().all(|t| t.coefficient < order)
 }

@@ -1,10 +1,16 @@
 // The shape of an array under a circulant size.
-ghost use Rattle.std.specs.Prelude.{◌≡◌, ◌*◌, ◌≤◌, Some, None, MatchResult};
+ghost use Rattle.std.specs.Prelude.{◌≡◌, ◌+◌, ◌*◌, ◌<◌, ◌≤◌, Some, None, MatchOption, MatchResult};
 ghost use Rattle.array.specs.Shapes.{shape_refusal};
 
 use refusal::Refusal;
 
-#[derive(Clone, Copy)]
+// The most cells that an array has: so many a buffer of cells has room for.
+pub const CELLS: usize = 512;
+
+// The most symbols that all blocks of an array have together: so many a buffer of blocks has room for.
+pub const BLOCK_SYMBOLS: usize = 16384;
+
+#[derive(Clone, Copy, PartialEq, Eq, Debug)]
 pub struct Shape {
     size: usize,
     rows: usize,
@@ -26,10 +32,13 @@ impl Shape {
             (λ s. (shape_refusal order size rows columns ≡ None) × (s.size ≡ size) × (s.rows ≡ rows) × (s.columns ≡ columns))
             (λ x. shape_refusal order size rows columns ≡ Some x) }
     {
-        if size < 1 || size > 511 || (order as usize).saturating_sub(1) % size != 0 {
+        if !(1..=511).contains(&size) || (order as usize).saturating_sub(1) % size != 0 {
             return Err(Refusal::Size);
         }
-        if rows < 1 || rows > 8 || columns < 1 || columns > 64 || rows * columns * size > 16384 {
+        if !(1..=8).contains(&rows)
+            || !(1..=64).contains(&columns)
+            || rows * columns * size > BLOCK_SYMBOLS
+        {
             return Err(Refusal::Shape);
         }
         Ok(Shape {
@@ -55,5 +64,19 @@ impl Shape {
         ensures { result ≡ self.now.columns }
     {
         self.columns
+    }
+
+    // Where the cell of a row and a column stands in the buffer of cells; nowhere where the array has no such place.
+    pub fn place_of(&self, row: usize, column: usize) -> Option<usize>
+        ensures { let s = self.now in
+            MatchOption result
+            ((row < s.rows) × (column < s.columns) → ⊥)
+            (λ k. (row < s.rows) × (column < s.columns) × (k ≡ row * s.columns + column) × (k < 512)) }
+    {
+        if row < self.rows && column < self.columns {
+            Some(row * self.columns + column)
+        } else {
+            None
+        }
     }
 }

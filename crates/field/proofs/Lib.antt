@@ -1,3 +1,4 @@
 pub mod Steps
 pub mod Logarithms
 pub mod Horner
+pub mod SymbolTests

@@ -1,6 +1,7 @@
 pub mod Meaning
 pub mod Shift
 pub mod Sums
+pub mod Symbols
 pub mod Laws
 pub mod Products
 pub mod Xors

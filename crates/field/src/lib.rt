@@ -2,11 +2,14 @@
 
 #![tactic(auto)]
 
+mod binary;
 mod interface;
 mod shift;
+mod symbols;
 mod table;
 mod tables;
 
 pub use interface::{Field, Symbol};
 pub use shift::ShiftField;
+pub use symbols::are_symbols;
 pub use table::TableField;

@@ -1,10 +1,10 @@
 // The shift field of degree r: 2^r symbols, multiplied by shifts and exclusive ors.
-ghost use Rattle.std.specs.Prelude.{◌≡◌, ◌-◌, ◌*◌, ◌^◌, ◌<◌, ◌≤◌, MatchResult};
-ghost use Rattle.field.specs.Shift.{pick, double, multiplied, raised, symbol, shift_field};
+ghost use Rattle.std.specs.Prelude.{◌≡◌, ◌^◌, ◌<◌, ◌≤◌, MatchResult};
+ghost use Rattle.field.specs.Shift.{pick, double};
 ghost use Rattle.refusal.specs.declared.Refusal.TheVariants.{Degree};
-ghost use Rattle.field.specs.Laws.{shift_lawful, shift_binary};
 
-use super::interface::{Field, Symbol};
+use super::binary::Binary;
+use super::interface::Symbol;
 use refusal::Refusal;
 
 // The primitive polynomials of degree 2 to 9; bit i is the coefficient of x^i.
@@ -32,7 +32,7 @@ impl ShiftField {
             (λ f. (2 ≤ degree) × (degree ≤ 9) × (f.degree ≡ degree))
             (λ x. ((2 ≤ degree) × (degree ≤ 9) → ⊥) × (x ≡ Degree)) }
     {
-        if degree < 2 || degree > 9 {
+        if !(2..=9).contains(&degree) {
             return Err(Refusal::Degree);
         }
         Ok(ShiftField::of_degree(degree))
@@ -46,14 +46,6 @@ impl ShiftField {
         ShiftField { degree }
     }
 
-    // An operand: 0 where it is no symbol.
-    fn operand(&self, a: u16) -> Symbol
-        ensures is { result ≡ symbol self.now.degree a }
-        ensures below { result < 2 ^ self.now.degree }
-    {
-        if a < 1 << self.degree { a } else { 0 }
-    }
-
     fn double(&self, a: Symbol) -> Symbol
         requires { a < 2 ^ self.now.degree }
         ensures is { result ≡ double self.now.degree a }
@@ -62,15 +54,22 @@ impl ShiftField {
         let d = a << 1;
         d ^ select(d >> self.degree, POLYNOMIALS[(self.degree - 2) as usize])
     }
+}
+
+impl Binary for ShiftField {
+    ghost degree = { λ f. f.degree };
+
+    ghost degree_low = { λ f. f.degree_low };
+
+    ghost degree_high = { λ f. f.degree_high };
+
+    fn degree(&self) -> u8 {
+        self.degree
+    }
 
     // The sum of x^i times `b` over the bits i that are 1 in `a`. All nine steps are taken at every degree, since bits from the
     // degree on are 0: so nothing depends on `a` but masks, and where `b` stays the same its multiples are worked out once.
-    fn multiply(&self, a: Symbol, b: Symbol) -> Symbol
-        requires a_below { a < 2 ^ self.now.degree }
-        requires b_below { b < 2 ^ self.now.degree }
-        ensures is { result ≡ multiplied self.now.degree a b }
-        ensures below { result < 2 ^ self.now.degree }
-    {
+    fn multiply(&self, a: Symbol, b: Symbol) -> Symbol {
         let mut p = 0;
         let mut multiple = b;
         for i in 0..9u32 {
@@ -81,10 +80,7 @@ impl ShiftField {
     }
 
     // a^(q - 2), the product of the squares a^2, a^4, .., a^(q / 2).
-    fn invert(&self, a: Symbol) -> Symbol
-        requires { a < 2 ^ self.now.degree }
-        ensures { result ≡ raised self.now.degree a (2 ^ self.now.degree - 2) }
-    {
+    fn invert(&self, a: Symbol) -> Symbol {
         let mut square = a;
         let mut p = 1;
         for _ in 1..self.degree {
@@ -92,33 +88,5 @@ impl ShiftField {
             p = self.multiply(p, square);
         }
         p
-    }
-}
-
-impl Field for ShiftField {
-    ghost meaning = { λ f. shift_field f.degree };
-
-    ghost lawful = { λ f. shift_lawful f.degree f.degree_low f.degree_high };
-
-    ghost binary = { λ f. shift_binary f.degree f.degree_low f.degree_high };
-
-    fn order(&self) -> u16 {
-        1 << self.degree
-    }
-
-    fn generator(&self) -> Symbol {
-        2
-    }
-
-    fn sum(&self, a: Symbol, b: Symbol) -> Symbol {
-        self.operand(a) ^ self.operand(b)
-    }
-
-    fn product(&self, a: Symbol, b: Symbol) -> Symbol {
-        self.multiply(self.operand(a), self.operand(b))
-    }
-
-    fn inverse(&self, a: Symbol) -> Symbol {
-        self.invert(self.operand(a))
     }
 }

@@ -5,6 +5,7 @@
 ghost use Rattle.std.specs.Prelude.{◌≡◌};
 ghost use Rattle.refusal.specs.Number.{number};
 
+use std::error::Error;
 use std::fmt;
 
 #[derive(Clone, Copy, PartialEq, Eq, Debug)]
@@ -72,3 +73,5 @@ impl fmt::Display for Refusal {
         write!(f, "{number} ({reason})")
     }
 }
+
+impl Error for Refusal {}

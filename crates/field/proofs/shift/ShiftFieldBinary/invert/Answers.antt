@@ -2,7 +2,7 @@ use Rattle.std.proofs.Common.{◌≡◌, ℕ, ◌-◌, ◌^◌, ◌<◌, refl, a
 use Rattle.field.specs.Shift.{raised}
 use Rattle.field.specs.Powers.{order_low}
 use Rattle.field.proofs.Steps.{square_first, square_next, inverse_next}
-use Rattle.field.proofs.shift.ShiftField.invert.Goals as goal
+use Rattle.field.proofs.shift.ShiftFieldBinary.invert.Goals as goal
 
 pub loop-init : goal.loop-init
 unfolding raised

@@ -3,7 +3,7 @@ use lib.Bits.{bit_xor, and_mask}
 use Rattle.field.specs.Shift.{pick, double, scaled}
 use Rattle.field.specs.Products.{product_lt}
 use Rattle.field.proofs.Steps.{multiples, multiples_none, multiples_next, nine_bits}
-use Rattle.field.proofs.shift.ShiftField.multiply.Goals as goal
+use Rattle.field.proofs.shift.ShiftFieldBinary.multiply.Goals as goal
 
 pub loop-i-init : goal.loop-i-init
 unfolding scaled

@@ -1,6 +1,6 @@
 use Rattle.std.proofs.Common.{◌≡◌, ◌-◌, ◌^◌, ◌<◌}
 use Rattle.field.specs.Shift.{raised}
-use Rattle.field.proofs.shift.ShiftField.invert.Given as goal
+use Rattle.field.proofs.shift.ShiftFieldBinary.invert.Given as goal
 
 abbrev pub invariant-loop : goal.invariant-loop
 invariant-loop l = (l.square < 2 ^ l.self.degree) × (l.p < 2 ^ l.self.degree)

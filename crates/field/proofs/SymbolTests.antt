@@ -2,7 +2,7 @@
 use Rattle.std.proofs.Common.{◌≡◌, ℕ, zero, suc, ◌<◌, ◌≤◌, true, false, ltb, inl, inr, List, [], ◌∷◌, length, get_or, refl, arith}
 use Rattle.std.proofs.lemmas.Bool.Decides.{leb_tells}
 use Rattle.std.proofs.lemmas.Bool.{and_parts, and_from, ltb-true, lt-ltb}
-use Rattle.code.specs.Checks.{symbols_below}
+use Rattle.field.specs.Symbols.{symbols_below}
 
 pub symbols_at : (q : ℕ) (xs : List ℕ) → symbols_below q xs ≡ true → (k : ℕ) → k < length xs → get_or xs k 0 < q
 symbols_at q [] h k l = absurd (omega arith)

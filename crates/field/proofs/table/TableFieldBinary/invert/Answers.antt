@@ -2,8 +2,8 @@ use Rattle.std.proofs.Common.{◌≡◌, ℕ, ◌+◌, ◌⊎◌, sym, ap, ◌�
 use Rattle.field.specs.Shift.{raised}
 use Rattle.field.specs.Powers.{raised_zero}
 use Rattle.field.proofs.Logarithms.{inverse_by_exponent}
-use Rattle.field.proofs.table.invert.Goals as goal
-use Rattle.field.proofs.table.invert.Goals.{then-k-eq0, else-k-eq0}
+use Rattle.field.proofs.table.TableFieldBinary.invert.Goals as goal
+use Rattle.field.proofs.table.TableFieldBinary.invert.Goals.{then-k-eq0, else-k-eq0}
 
 pub returns-then-a-eq0 : goal.returns-then-a-eq0
 returns-then-a-eq0 c =
