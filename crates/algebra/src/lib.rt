@@ -12,32 +12,22 @@ pub use matrices::{
     scaling_keeps_null, swap_keeps_null,
 };
 
-pub fn root_has_order() -> u8
+pub fn root_has_order()
     ensures { RootHasOrder }
-{
-    0
-}
+{}
 
-pub fn transform_pair_holds() -> u8
+pub fn transform_pair_holds()
     ensures { TransformPair }
-{
-    0
-}
+{}
 
-pub fn convolution_holds() -> u8
+pub fn convolution_holds()
     ensures { Convolution }
-{
-    0
-}
+{}
 
-pub fn passing_is_null() -> u8
+pub fn passing_is_null()
     ensures { PassingIsNull }
-{
-    0
-}
+{}
 
-pub fn generator_goes_by_terms() -> u8
+pub fn generator_goes_by_terms()
     ensures { GeneratorByTerms }
-{
-    0
-}
+{}

@@ -3,43 +3,31 @@ ghost use Rattle.algebra.specs.Matrices.{ReducedFormIsUnique, SwapKeepsNull, Sca
 ghost use Rattle.algebra.specs.Solutions.{ReducedFormSolves};
 
 // A matrix has one reduced row echelon form.
-pub fn reduced_form_is_unique() -> u8
+pub fn reduced_form_is_unique()
     ensures { ReducedFormIsUnique }
-{
-    0
-}
+{}
 
 // The exchange of two rows keeps the null space.
-pub fn swap_keeps_null() -> u8
+pub fn swap_keeps_null()
     ensures { SwapKeepsNull }
-{
-    0
-}
+{}
 
 // The product of a row with a nonzero symbol keeps the null space.
-pub fn scaling_keeps_null() -> u8
+pub fn scaling_keeps_null()
     ensures { ScalingKeepsNull }
-{
-    0
-}
+{}
 
 // The sum of a row and a multiple of another keeps the null space.
-pub fn adding_keeps_null() -> u8
+pub fn adding_keeps_null()
     ensures { AddingKeepsNull }
-{
-    0
-}
+{}
 
 // The rank counts the rows that are not zero, and the columns that are not free.
-pub fn rank_counts() -> u8
+pub fn rank_counts()
     ensures { RankCounts }
-{
-    0
-}
+{}
 
 // The free columns of the reduced row echelon form give the solutions.
-pub fn reduced_form_solves() -> u8
+pub fn reduced_form_solves()
     ensures { ReducedFormSolves }
-{
-    0
-}
+{}
