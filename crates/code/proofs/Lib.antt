@@ -1,3 +1,2 @@
 pub mod Rotations
 pub mod Sums
-pub mod Symbols

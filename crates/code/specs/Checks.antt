@@ -9,8 +9,8 @@ use Rattle.array.specs.declared.plain.CellRow.{CellRow}
 use Rattle.array.specs.Cells.{no_term, terms_of}
 use Rattle.array.specs.Buffers.{cell_at}
 use Rattle.array.specs.Shapes.{unless}
-use Rattle.code.specs.declared.receiver.Verdict.{Verdict}
-use Rattle.code.specs.declared.receiver.Verdict.TheVariants.{Passes, Fails}
+use Rattle.field.specs.Symbols.{symbols_below}
+use Rattle.code.specs.declared.receiver.FailedCheck.{FailedCheck}
 
 -- what the terms of one cell add to parity check s: the sum over the terms of coefficient times symbol (shift + s) mod e of the
 -- cell's column of the word
@@ -22,6 +22,10 @@ cell_sum f e terms column s =
 abbrev pub syndrome : Meaning → ℕ → ℕ → List CellRow → List ℕ → ℕ → ℕ → ℕ
 syndrome f e columns cells word i s =
     total f columns (λ j. cell_sum f e (terms_of (cell_at columns cells i j)) (λ l. slice_index word (j * e + l)) s)
+
+-- what the parity checks say of a word: it passes them all, or the first check that fails
+abbrev pub Verdict : Type 0
+Verdict = Result Unit FailedCheck
 
 -- every parity check of the array has syndrome 0
 abbrev pub PassesAll : Meaning → ℕ → ℕ → ℕ → List CellRow → List ℕ → Type 0
@@ -37,8 +41,8 @@ pub record FailsFirst (f : Meaning) (e rows columns : ℕ) (cells : List CellRow
   pub before : (k : ℕ) → k < s → syndrome f e columns cells word i k ≡ 0
 
 abbrev pub Says : Meaning → ℕ → ℕ → ℕ → List CellRow → List ℕ → Verdict → Type 0
-Says f e rows columns cells word Passes = PassesAll f e rows columns cells word
-Says f e rows columns cells word (Fails i s x) = FailsFirst f e rows columns cells word i s x
+Says f e rows columns cells word (Ok _) = PassesAll f e rows columns cells word
+Says f e rows columns cells word (Err c) = FailsFirst f e rows columns cells word c.row c.s c.syndrome
 
 -- What is judged before the checks: cells enough, then the length of the word, then its symbols. The first that fails is the refusal.
 abbrev pub Judged : ℕ → ℕ → ℕ → ℕ → List ℕ → Result Unit Refusal → Type 0
@@ -63,11 +67,6 @@ Judged q e columns cells word (Err Record) = ⊥
 abbrev pub Checked : Meaning → ℕ → ℕ → ℕ → List CellRow → List ℕ → Result Verdict Refusal → Type 0
 Checked f e rows columns cells word (Ok v) = Judged f.q e columns (length cells) word (Ok tt) × Says f e rows columns cells word v
 Checked f e rows columns cells word (Err x) = Judged f.q e columns (length cells) word (Err x)
-
--- every number of the list is a symbol of the field of q symbols
-abbrev pub symbols_below : ℕ → List ℕ → Bool
-symbols_below q [] = true
-symbols_below q (x ∷ xs) = nat_lt x q && symbols_below q xs
 
 -- check refuses: too few cells, then a word that has not columns x size symbols, then a number that is no symbol
 abbrev pub check_refusal : ℕ → ℕ → ℕ → ℕ → List ℕ → Option Refusal

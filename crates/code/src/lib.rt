@@ -4,4 +4,5 @@
 
 mod receiver;
 
-pub use receiver::{Verdict, are_symbols, check};
+pub use field::are_symbols;
+pub use receiver::{FailedCheck, Verdict, check};

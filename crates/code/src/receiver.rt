@@ -1,24 +1,31 @@
 // The receiver's side: does a word pass every parity check of an array?
-ghost use Rattle.std.specs.Prelude.{◌≡◌, ℕ, ◌+◌, ◌-◌, ◌*◌, ◌%◌, ◌<◌, ◌≤◌, length, Some, None, MatchOption, MatchResult, ◌≢◌, slice_index};
-ghost use Rattle.array.specs.Buffers.{cell_at};
-ghost use Rattle.array.specs.Cells.{normal};
-ghost use Rattle.code.specs.Checks.{cell_sum, syndrome, symbols_below, check_refusal, Judged, Checked, Answered};
+ghost use Rattle.std.specs.Prelude.{◌≡◌, ℕ, ◌+◌, ◌-◌, ◌*◌, ◌%◌, ◌<◌, ◌≤◌, length, take, drop, Some, None, MatchOption, MatchResult, ◌≢◌, slice_index};
+ghost use Rattle.code.specs.Checks.{cell_sum, syndrome, check_refusal, Judged, Checked, Answered};
 
-use array::{Cell, CellRow, Shape, Term};
-use field::{Field, Symbol};
+use array::{CELLS, Cell, CellRow, Shape, Term};
+use field::{Field, Symbol, are_symbols};
 use refusal::Refusal;
+use std::fmt;
 
-// What the parity checks say of a word.
+// The first parity check that fails, by row and then by its number in the row, with its syndrome.
 #[derive(Clone, Copy, PartialEq, Eq, Debug)]
-pub enum Verdict {
-    Passes,
-    // the first check that fails, by row and then by its number in the row, with its syndrome
-    Fails {
-        row: usize,
-        s: usize,
-        syndrome: Symbol,
-    },
+pub struct FailedCheck {
+    pub row: usize,
+    pub s: usize,
+    pub syndrome: Symbol,
 }
+
+impl fmt::Display for FailedCheck {
+    fn fmt<W: fmt::Write>(&self, f: &mut fmt::Formatter<W>) -> fmt::Result {
+        let row = self.row;
+        let s = self.s;
+        let syndrome = self.syndrome;
+        write!(f, "{row} {s} {syndrome}")
+    }
+}
+
+// What the parity checks say of a word: it passes them all, or fails.
+pub type Verdict = Result<(), FailedCheck>;
 
 // Adds a multiple of `xs` to `sums`.
 fn add_scaled<F: Field>(f: &F, sums: &mut [Symbol], xs: &[Symbol], by: Symbol)
@@ -28,8 +35,9 @@ fn add_scaled<F: Field>(f: &F, sums: &mut [Symbol], xs: &[Symbol], by: Symbol)
         ((s : ℕ) → s < length x →
         slice_index sums.new s ≡ m.sum (slice_index sums.old s) (m.product by (slice_index x s))) }
 {
-    for s in 0..xs.len() {
-        sums[s] = f.sum(sums[s], f.product(xs[s], by));
+    // Through an iterator over both slices it would not be known afterwards what was written.
+    for (s, sum) in sums.iter_mut().enumerate() {
+        *sum = f.sum(*sum, f.product(xs[s], by));
     }
 }
 
@@ -75,35 +83,14 @@ fn add_cell<F: Field>(f: &F, sums: &mut [Symbol], column: &[Symbol], terms: &[Te
     }
 }
 
-// The cell at a place of the array.
-fn cell_of(shape: &Shape, cells: &[CellRow], row: usize, column: usize) -> Cell
-    requires buffer { 512 ≤ length cells.now }
-    requires row_within { row < shape.now.rows }
-    requires column_within { column < shape.now.columns }
-    ensures { result.row ≡ normal (cell_at shape.now.columns cells.now row column) }
+// Part `j` of a slice that is cut into parts of `size` each.
+fn part<T>(xs: &[T], size: usize, j: usize) -> &[T]
+    requires { (j + 1) * size ≤ length xs.now }
+    ensures is { result.now ≡ take size (drop (j * size) xs.now) }
+    ensures len { length result.now ≡ size }
 {
-    Cell::of_row(cells[row * shape.columns() + column])
-}
-
-// Where column `j` of a word starts.
-fn column_start(shape: &Shape, j: usize) -> usize
-    requires { j < shape.now.columns }
-    ensures is { result ≡ j * shape.now.size }
-    ensures within { result + shape.now.size ≤ shape.now.columns * shape.now.size }
-{
-    j * shape.size()
-}
-
-// Column `j` of a word.
-fn column_of<'a>(shape: &Shape, word: &'a [Symbol], j: usize) -> &'a [Symbol]
-    requires sized { length word.now ≡ shape.now.columns * shape.now.size }
-    requires within { j < shape.now.columns }
-    ensures len { length result.now ≡ shape.now.size }
-    ensures symbols { (l : ℕ) → l < shape.now.size →
-        slice_index result.now l ≡ slice_index word.now (j * shape.now.size + l) }
-{
-    let start = column_start(shape, j);
-    &word[start..start + shape.size()]
+    let start = j * size;
+    &xs[start..start + size]
 }
 
 // The syndromes of all parity checks of a row.
@@ -123,13 +110,15 @@ fn row_syndromes<F: Field>(
         ((s : ℕ) → s < e → slice_index sums.new s
         ≡ syndrome (F.Field.meaning f.now) e shape.now.columns cells.now word.now row s) }
 {
-    for sum in sums.iter_mut() {
-        *sum = 0;
-    }
-    for j in 0..shape.columns() {
-        let column = column_of(shape, word, j);
-        let cell = cell_of(shape, cells, row, j);
-        add_cell(f, sums, column, cell.terms());
+    sums.fill(0);
+    let row_cells = part(cells, shape.columns(), row);
+    for (j, cell) in row_cells.iter().enumerate() {
+        add_cell(
+            f,
+            sums,
+            part(word, shape.size(), j),
+            Cell::from(*cell).terms(),
+        );
     }
 }
 
@@ -139,24 +128,7 @@ fn first_nonzero(sums: &[Symbol]) -> Option<usize>
         (λ s. (s < length sums.now) × (slice_index sums.now s ≢ 0)
         × ((k : ℕ) → k < s → slice_index sums.now k ≡ 0)) }
 {
-    for (s, sum) in sums.iter().enumerate() {
-        if *sum != 0 {
-            return Some(s);
-        }
-    }
-    None
-}
-
-// Is every number a symbol of the field of `order` symbols?
-pub fn are_symbols(xs: &[Symbol], order: u16) -> bool
-    ensures { result ≡ symbols_below order xs.now }
-{
-    for x in xs {
-        if *x >= order {
-            return false;
-        }
-    }
-    true
+    sums.iter().position(|sum| *sum != 0)
 }
 
 // Refuses with Buffer, Length, then Symbol.
@@ -165,7 +137,7 @@ fn judge(order: u16, shape: &Shape, cells: usize, word: &[Symbol]) -> Result<(),
     ensures answered { let answer = check_refusal order shape.now.size shape.now.columns cells word.now in
         MatchResult result (λ _. answer ≡ None) (λ x. answer ≡ Some x) }
 {
-    if cells < 512 {
+    if cells < CELLS {
         return Err(Refusal::Buffer);
     }
     if word.len() != shape.columns() * shape.size() {
@@ -192,17 +164,19 @@ pub fn check<F: Field>(
         shape.now.columns cells.now word.now result }
 {
     judge(f.order(), shape, cells.len(), word)?;
-    let mut space = [0; 512];
+    // No heap is used: a word has at most 511 checks to a row.
+    let mut space = [0; 511];
+    let sums = &mut space[..shape.size()];
+    // By its number, which is part of the answer.
     for row in 0..shape.rows() {
-        let sums = &mut space[0..shape.size()];
         row_syndromes(f, shape, cells, word, row, sums);
         if let Some(s) = first_nonzero(sums) {
-            return Ok(Verdict::Fails {
+            return Ok(Err(FailedCheck {
                 row,
                 s,
                 syndrome: sums[s],
-            });
+            }));
         }
     }
-    Ok(Verdict::Passes)
+    Ok(Ok(()))
 }

@@ -1,5 +1,5 @@
 use Rattle.std.proofs.Common.{◌≡◌, ◌*◌, length, sym, rules, arith}
-use Rattle.code.proofs.Symbols.{symbols_at, symbols_fail}
+use Rattle.field.proofs.SymbolTests.{symbols_at, symbols_fail}
 use Rattle.code.proofs.receiver.judge.Goals as goal
 
 pub returns-then-not-are_symbols-clause-judged : goal.returns-then-not-are_symbols-clause-judged

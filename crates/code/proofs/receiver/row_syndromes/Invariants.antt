@@ -5,9 +5,6 @@ use Rattle.array.specs.Buffers.{cell_at}
 use Rattle.code.specs.Checks.{cell_sum}
 use Rattle.code.proofs.receiver.row_syndromes.Given as goal
 
-abbrev pub invariant-loop-sum : goal.invariant-loop-sum
-invariant-loop-sum g l = (k : ℕ) → k < l.sum-index → get_or l.sums k 0 ≡ 0
-
 abbrev pub invariant-loop-j : goal.invariant-loop-j
 invariant-loop-j g l =
     let e = l.shape.size in

@@ -1,6 +1,0 @@
-use Rattle.std.proofs.Common.{◌≡◌, drop}
-use Rattle.code.specs.Checks.{symbols_below}
-use Rattle.code.proofs.receiver.are_symbols.Given as goal
-
-abbrev pub invariant-loop-x : goal.invariant-loop-x
-invariant-loop-x l = symbols_below l.order (drop l.x-index l.xs) ≡ symbols_below l.order l.xs
