@@ -120,7 +120,7 @@ pub(crate) fn build_checks<F: Field>(f: &F, shape: &Shape, cells: &[CellRow], bl
     let alpha = root(f, shape);
     clear(blocks, used(shape));
     for k in 0..places(shape) {
-        let cell = Cell::of_row(cells[k]);
+        let cell = Cell::from(cells[k]);
         add_cell(f, shape, alpha, blocks, k, cell.terms());
     }
 }

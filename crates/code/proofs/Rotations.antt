@@ -21,12 +21,14 @@ turned_back shift e s h g =
     let l : shift + s ≡ suc (shift / e) * e + (s - (e - shift % e)) = omega arith in
     ap (λ (n : ℕ). n % e) l ∙ mod-mul-add (suc (shift / e)) e (s - (e - shift % e)) (omega arith)
 
--- part j of a list that is cut into parts of n
-pub part_length : {X : Type 0} (xs : List X) (n j : ℕ) (ys : List X) → ys ≡ take n (drop (j * n) xs) → (j + 1) * n ≤ length xs → length ys ≡ n
-part_length xs n j ys e h =
-    let m : (j + 1) * n ≡ j * n + n = grind arith in
-    rw e (search (rules, places))
+-- the n elements from `start` on
+pub part_length : (start n : ℕ) (xs : List ℕ) → start + n ≤ length xs → length (take (start + n - start) (drop start xs)) ≡ n
+part_length start n xs h = search (rules, places)
 
+pub part_read : (start n : ℕ) (xs : List ℕ) (l : ℕ) → l < n → get_or (take (start + n - start) (drop start xs)) l 0 ≡ get_or xs (start + l) 0
+part_read start n xs l h = search (rules, places)
+
+-- part j of a list that is cut into parts of n
 pub part_at : {X : Type 0} (xs : List X) (n j : ℕ) (ys : List X) (d : X) → ys ≡ take n (drop (j * n) xs)
     → (l : ℕ) → l < n → get_or ys l d ≡ get_or xs (j * n + l) d
 part_at xs n j ys d e l h = rw e (search (rules, places))

@@ -2,7 +2,7 @@
 use Rattle.std.proofs.Common.{◌≡◌, ℕ, ◌*◌, ◌<◌, ◌≤◌, List, length, get_or, None, arith}
 use Rattle.std.proofs.lemmas.Bool.Decides.{nat_tests}
 use Rattle.code.specs.Checks.{check_refusal}
-use Rattle.code.proofs.Symbols.{symbols_at}
+use Rattle.field.proofs.SymbolTests.{symbols_at}
 use Rattle.coder.specs.Forms.{dimension}
 use Rattle.coder.specs.Encoding.{encode_refusal}
 use Rattle.coder.specs.Recovery.{recover_refusal}

@@ -7,7 +7,7 @@ use Rattle.algebra.specs.Transforms.{synthesis}
 use Rattle.algebra.specs.Solutions.{offset, filled}
 use Rattle.array.specs.Shapes.{unless}
 use Rattle.blocks.specs.Blocks.{block_at}
-use Rattle.code.specs.Checks.{symbols_below}
+use Rattle.field.specs.Symbols.{symbols_below}
 use Rattle.coder.specs.Forms.{frees, dimension}
 
 -- the spectrum of a message's word at frequency t, in column j: the message symbols go block by block to the free columns, in rising

@@ -7,7 +7,8 @@ use Rattle.algebra.specs.Transforms.{spectrum}
 use Rattle.algebra.specs.Solutions.{collected}
 use Rattle.array.specs.declared.plain.CellRow.{CellRow}
 use Rattle.array.specs.Shapes.{unless}
-use Rattle.code.specs.Checks.{symbols_below, PassesAll, FailsFirst}
+use Rattle.field.specs.Symbols.{symbols_below}
+use Rattle.code.specs.Checks.{PassesAll, FailsFirst}
 use Rattle.coder.specs.declared.recovery.Unrecovered.{Unrecovered}
 use Rattle.coder.specs.declared.recovery.Unrecovered.TheVariants.{Refused, Fails}
 use Rattle.coder.specs.Forms.{frees, dimension}
@@ -30,7 +31,7 @@ recover_refusal q e rows columns cells blocks word out work =
 -- the refusal that stands for each reason why no message is recovered
 abbrev pub refusal_of : Unrecovered → Refusal
 refusal_of (Refused x) = x
-refusal_of (Fails i s x) = Check
+refusal_of (Fails c) = Check
 
 -- The answer of recover to a word: the number of message symbols, the refusal, or the first parity check that fails.
 abbrev pub Recovers : Meaning → ℕ → ℕ → ℕ → List CellRow → List ℕ → List ℕ → ℕ → ℕ → Result ℕ Unrecovered → Type 0
@@ -39,8 +40,8 @@ Recovers f e rows columns cells blocks word out work (Ok n) =
     × (n ≡ dimension rows columns e blocks)
 Recovers f e rows columns cells blocks word out work (Err (Refused x)) =
     recover_refusal f.q e rows columns (length cells) blocks word out work ≡ Some x
-Recovers f e rows columns cells blocks word out work (Err (Fails i s x)) =
-    (recover_refusal f.q e rows columns (length cells) blocks word out work ≡ None) × FailsFirst f e rows columns cells word i s x
+Recovers f e rows columns cells blocks word out work (Err (Fails c)) =
+    (recover_refusal f.q e rows columns (length cells) blocks word out work ≡ None) × FailsFirst f e rows columns cells word c.row c.s c.syndrome
 
 -- a message: as many symbols as the dimension
 pub record Message (f : Meaning) (e rows columns : ℕ) (blocks message : List ℕ) : Type 0 where

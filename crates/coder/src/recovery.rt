@@ -6,7 +6,7 @@ ghost use Rattle.algebra.specs.Solutions.{gathered, collected};
 ghost use Rattle.blocks.specs.Blocks.{Holds};
 ghost use Rattle.coder.specs.Columns.{coefficient};
 ghost use Rattle.coder.specs.Forms.{matrix, frees, dimension};
-ghost use Rattle.coder.specs.declared.recovery.Unrecovered.TheVariants.{Refused};
+ghost use Rattle.coder.specs.declared.recovery.Unrecovered.TheVariants.{Refused, Fails};
 ghost use Rattle.coder.specs.Recovery.{recovered, recover_refusal, refusal_of, Recovers, OneToOne};
 
 use super::encoding::word_length;
@@ -14,7 +14,7 @@ use super::forms::{count_dimension, lead_row_of};
 use super::transform::{evaluate, row_start, symbol_place};
 use array::{CellRow, Shape};
 use blocks::{block_start, root};
-use code::{Verdict, are_symbols, check};
+use code::{FailedCheck, are_symbols, check};
 use field::{Field, Symbol};
 use refusal::Refusal;
 
@@ -22,12 +22,7 @@ use refusal::Refusal;
 #[derive(Clone, Copy)]
 pub enum Unrecovered {
     Refused(Refusal),
-    // the first parity check that fails, with its syndrome
-    Fails {
-        row: usize,
-        s: usize,
-        syndrome: Symbol,
-    },
+    Fails(FailedCheck),
 }
 
 impl From<Refusal> for Unrecovered {
@@ -38,14 +33,22 @@ impl From<Refusal> for Unrecovered {
     }
 }
 
-impl Unrecovered {
-    // The refusal that this is; Check where a parity check fails.
-    pub fn refusal(self) -> Refusal
-        ensures { result ≡ refusal_of self }
-    {
-        match self {
+impl From<FailedCheck> for Unrecovered {
+    ghost from_gives = { λ failed r. r ≡ Fails failed };
+
+    fn from(failed: FailedCheck) -> Self {
+        Unrecovered::Fails(failed)
+    }
+}
+
+// The refusal that this is; Check where a parity check fails.
+impl From<Unrecovered> for Refusal {
+    ghost from_gives = { λ why r. r ≡ refusal_of why };
+
+    fn from(why: Unrecovered) -> Self {
+        match why {
             Unrecovered::Refused(refusal) => refusal,
-            Unrecovered::Fails { .. } => Refusal::Check,
+            Unrecovered::Fails(_) => Refusal::Check,
         }
     }
 }
@@ -211,9 +214,7 @@ pub fn recover<F: Field>(
         out.len(),
         work.len(),
     )?;
-    if let Verdict::Fails { row, s, syndrome } = check(f, shape, cells, word)? {
-        return Err(Unrecovered::Fails { row, s, syndrome });
-    }
+    check(f, shape, cells, word)??;
     let length = word_length(shape);
     transpose(shape, word, &mut work[0..length]);
     read_message(f, shape, blocks, &work[0..length], out);

@@ -138,7 +138,7 @@ impl fmt::Display for Answer {
             Answer::Done => write!(f, "ok"),
             Answer::Cell(row) => {
                 write!(f, "cell")?;
-                for term in Cell::of_row(*row).terms() {
+                for term in Cell::from(*row).terms() {
                     let shift = term.shift;
                     let coefficient = term.coefficient;
                     write!(f, " {shift}:{coefficient}")?;

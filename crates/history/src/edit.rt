@@ -121,7 +121,7 @@ impl History {
             kind: PLACE,
             row: row as u8,
             column: column as u8,
-            cell_before: Cell::of_row(cells[k]).row(),
+            cell_before: Cell::from(cells[k]).row(),
             cell_after: cell.row(),
             size_before: 0,
             size_after: 0,
@@ -379,7 +379,7 @@ fn put_in(
 {
     match change.kind {
         PLACE => {
-            let cell = Cell::of_row(row);
+            let cell = Cell::from(row);
             let Ok(k) = locate(
                 &shape,
                 order,

@@ -35,7 +35,7 @@ loop-k-preserved g c =
       built_more (g.F.Field.meaning c.args.f.now) (g.met.F.Field.lawful c.args.f.now) (s.rows * s.columns) s.size k c.args.cells.now
           c.terms.result.now c.clear.new.blocks c.loop-k.blocks c.add_cell.new.blocks
           (omega (arith, c.places-k-end.ensures.is))
-          (c.terms.ensures ∙ ap (λ (r : CellRow). take r.count r.terms) c.of_row-cell.ensures ∙ terms_normal (get_or c.args.cells.now k blank))
+          (c.terms.ensures ∙ ap (λ (r : CellRow). take r.count r.terms) c.from-cell.ensures ∙ terms_normal (get_or c.args.cells.now k blank))
           c.loop-k.invariant.1 c.add_cell.ensures,
     )
 

@@ -1,5 +1,5 @@
 use Rattle.std.proofs.Common.{◌≡◌, ◌*◌, length, inl, inr, ⊎_elim, sym, arith, rules}
-use Rattle.code.proofs.Symbols.{symbols_at, symbols_fail}
+use Rattle.field.proofs.SymbolTests.{symbols_at, symbols_fail}
 use Rattle.coder.specs.Forms.{dimension}
 use Rattle.coder.proofs.encoding.judge.Goals as goal
 

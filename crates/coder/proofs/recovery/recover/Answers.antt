@@ -2,8 +2,7 @@ use Rattle.std.proofs.Common.{◌≡◌, ℕ, ◌-◌, ◌*◌, ◌<◌, ◌≤�
 use borrow.Rule.Slice.PartMut.{post_of}
 use Rattle.std.proofs.lemmas.List.{places}
 use Rattle.std.proofs.lemmas.Result.{err_from_is_err_and}
-use Rattle.code.specs.declared.receiver.Verdict.{Verdict}
-use Rattle.code.specs.Checks.{Says}
+use Rattle.code.specs.Checks.{Verdict, Says}
 use Rattle.coder.specs.Recovery.{recover_refusal}
 use Rattle.coder.proofs.Accepts.{recover_check, recover_work}
 use Rattle.coder.proofs.Recovers.{one_to_one, recovered_from}
@@ -25,8 +24,8 @@ returns-in_err-judge g c =
           s.rows s.columns s.size (omega arith) d c.args.cells.now c.args.blocks.now h;
     })
 
-pub returns-in_err-row : goal.returns-in_err-row
-returns-in_err-row g c =
+pub returns-in_err-check : goal.returns-in_err-check
+returns-in_err-check g c =
     let f = g.F.Field.meaning c.args.f.now in
     let s = c.args.shape.now in
     let judged : recover_refusal f.q s.size s.rows s.columns (length c.args.cells.now) c.args.blocks.now c.args.word.now
@@ -35,29 +34,13 @@ returns-in_err-row g c =
     (length c.args.out.now) (length c.args.work.now) ≡ None) c.order.ensures c.in_ok-judge.ensures in
     let none = recover_check f.q s.size s.rows s.columns (length c.args.cells.now) c.args.blocks.now c.args.word.now
     (length c.args.out.now) (length c.args.work.now) judged in
-    let bad : ⊥ = grind (arith, none, c.in_err-row.ensures.answered) in
+    let bad : ⊥ = grind (arith, none, c.in_err-check.ensures.answered) in
     absurd bad
 
-pub returns-in-Fails : goal.returns-in-Fails
-returns-in-Fails g c =
-    let f = g.F.Field.meaning c.args.f.now in
-    let s = c.args.shape.now in
-    let judged : recover_refusal f.q s.size s.rows s.columns (length c.args.cells.now) c.args.blocks.now c.args.word.now
-    (length c.args.out.now) (length c.args.work.now) ≡ None =
-    subst (λ (q : ℕ). recover_refusal q s.size s.rows s.columns (length c.args.cells.now) c.args.blocks.now c.args.word.now
-    (length c.args.out.now) (length c.args.work.now) ≡ None) c.order.ensures c.in_ok-judge.ensures in
-    record {
-      judged = (
-        judged,
-        subst (λ (v : Verdict). Says f s.size s.rows s.columns c.args.cells.now c.args.word.now v)
-            c.in-Fails.is c.in_ok-row.ensures.answered.1,
-      );
-      message = tt;
-      rest = λ i h. refl;
-      kept = (refl, refl);
-      one_to_one = λ d h. one_to_one f (g.met.F.Field.lawful c.args.f.now) (g.met.F.Field.binary c.args.f.now)
-          s.rows s.columns s.size (omega arith) d c.args.cells.now c.args.blocks.now h;
-    }
+pub returns-in_err-branch-clause-one_to_one : goal.returns-in_err-branch-clause-one_to_one
+returns-in_err-branch-clause-one_to_one g c = λ d h.
+    one_to_one (g.F.Field.meaning c.args.f.now) (g.met.F.Field.lawful c.args.f.now) (g.met.F.Field.binary c.args.f.now)
+    c.args.shape.now.rows c.args.shape.now.columns c.args.shape.now.size (omega arith) d c.args.cells.now c.args.blocks.now h
 
 pub returns : goal.returns
 returns g c =
@@ -83,7 +66,7 @@ returns g c =
     record {
       judged = (
         judged,
-        subst (λ (v : Verdict). Says f e s.rows s.columns c.args.cells.now word v) c.in_default.is c.in_ok-row.ensures.answered.1,
+        subst (λ (v : Verdict). Says f e s.rows s.columns c.args.cells.now word v) c.in_ok-branch.was c.in_ok-check.ensures.answered.1,
         c.count_dimension.ensures,
       );
       message = c.read_message.ensures
