@@ -2,6 +2,7 @@ pub mod Meaning
 pub mod Shift
 pub mod Sums
 pub mod Symbols
+pub mod AnyField
 pub mod Laws
 pub mod Products
 pub mod Xors

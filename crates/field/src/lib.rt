@@ -2,6 +2,7 @@
 
 #![tactic(auto)]
 
+mod any;
 mod binary;
 mod interface;
 mod shift;
@@ -9,6 +10,7 @@ mod symbols;
 mod table;
 mod tables;
 
+pub use any::AnyField;
 pub use interface::{Field, Symbol};
 pub use shift::ShiftField;
 pub use symbols::are_symbols;

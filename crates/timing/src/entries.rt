@@ -7,17 +7,18 @@ ghost use Rattle.refusal.specs.Number.{number};
 ghost use Rattle.timing.specs.Fields.{field_of};
 ghost use Rattle.timing.specs.Recovery.{Reads};
 
-use super::calls::{build, check, encode, recover};
+use super::code::Code;
 use array::CellRow;
-use field::{ShiftField, Symbol, TableField};
+use field::Symbol;
 use refusal::Refusal;
 
+// C gets a number: 0, or that of the refusal.
 fn answer(r: Result<(), Refusal>) -> u8
     ensures { MatchResult r (λ _. result ≡ 0) (λ x. result ≡ number x) }
 {
     match r {
         Ok(()) => 0,
-        Err(x) => x.number(),
+        Err(refusal) => refusal.number(),
     }
 }
 
@@ -33,12 +34,9 @@ pub extern "C" fn timing_build(
 ) -> u8
     ensures { result ≡ 0 → Holds (field_of field) size rows columns cells.now blocks.new }
 {
-    if field == 0 {
-        return answer(build(&TableField, size, rows, columns, cells, blocks));
-    }
-    match ShiftField::new(field) {
-        Ok(f) => answer(build(&f, size, rows, columns, cells, blocks)),
-        Err(x) => x.number(),
+    match Code::new(field, size, rows, columns) {
+        Ok(code) => answer(code.build(cells, blocks)),
+        Err(refusal) => refusal.number(),
     }
 }
 
@@ -57,12 +55,9 @@ pub extern "C" fn timing_encode(
     ensures { result ≡ 0 → (cells : List CellRow) → Holds (field_of field) size rows columns cells blocks.now →
         PassesAll (field_of field) size rows columns cells out.new }
 {
-    if field == 0 {
-        return answer(encode(&TableField, size, rows, columns, blocks, message, out, work));
-    }
-    match ShiftField::new(field) {
-        Ok(f) => answer(encode(&f, size, rows, columns, blocks, message, out, work)),
-        Err(x) => x.number(),
+    match Code::new(field, size, rows, columns) {
+        Ok(code) => answer(code.encode(blocks, message, out, work)),
+        Err(refusal) => refusal.number(),
     }
 }
 
@@ -78,12 +73,9 @@ pub extern "C" fn timing_check(
 ) -> u8
     ensures { result ≡ 0 → PassesAll (field_of field) size rows columns cells.now word.now }
 {
-    if field == 0 {
-        return answer(check(&TableField, size, rows, columns, cells, word));
-    }
-    match ShiftField::new(field) {
-        Ok(f) => answer(check(&f, size, rows, columns, cells, word)),
-        Err(x) => x.number(),
+    match Code::new(field, size, rows, columns) {
+        Ok(code) => answer(code.check(cells, word)),
+        Err(refusal) => refusal.number(),
     }
 }
 
@@ -103,21 +95,8 @@ pub extern "C" fn timing_recover(
     ensures { result ≡ 0 → Reads (field_of field) size rows columns cells.now blocks.now
         word.now out.old out.new }
 {
-    if field == 0 {
-        return answer(recover(
-            &TableField,
-            size,
-            rows,
-            columns,
-            cells,
-            blocks,
-            word,
-            out,
-            work,
-        ));
-    }
-    match ShiftField::new(field) {
-        Ok(f) => answer(recover(&f, size, rows, columns, cells, blocks, word, out, work)),
-        Err(x) => x.number(),
+    match Code::new(field, size, rows, columns) {
+        Ok(code) => answer(code.recover(cells, blocks, word, out, work)),
+        Err(refusal) => refusal.number(),
     }
 }

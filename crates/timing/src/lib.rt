@@ -3,7 +3,7 @@
 
 #![tactic(auto)]
 
-mod calls;
+mod code;
 mod entries;
 
 pub use entries::{timing_build, timing_check, timing_encode, timing_recover};

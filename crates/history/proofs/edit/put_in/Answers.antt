@@ -18,7 +18,7 @@ unfolding record_fits
 returns-in_default-locate c =
     let e = c.in_default-locate.ensures in
     let t = terms_normal c.args.row in
-    let u = sound_terms c.from-cell.result.row c.of_row-cell.result.keeps in
+    let u = sound_terms c.from-cell.result.row c.from-cell.result.keeps in
     grind (arith, nat_tests)
 
 pub returns-in-Ok : goal.returns-in-Ok

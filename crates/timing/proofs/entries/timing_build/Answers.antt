@@ -1,19 +1,10 @@
+use Rattle.std.proofs.Common.{ℕ}
 use Rattle.field.specs.Meaning.{Meaning}
-use Rattle.field.specs.Shift.{shift_field}
 use Rattle.blocks.specs.Blocks.{Holds}
-use Rattle.timing.proofs.Stands.{accepted, of_table, of_shift}
+use Rattle.timing.proofs.Stands.{accepted, of_code}
 use Rattle.timing.proofs.entries.timing_build.Goals as goal
 
-pub returns-then-field-eq0 : goal.returns-then-field-eq0
-returns-then-field-eq0 c =
-    let P : Meaning → Type 0 = λ m. Holds m c.args.size c.args.rows c.args.columns c.args.cells.now c.build.new.blocks in
-    λ z. of_table P c.args.field c.if-field-eq0.true
-    (accepted c.build.result c.answer.result (P (shift_field 9)) c.answer.ensures c.build.ensures z)
-
 pub returns-in-Ok : goal.returns-in-Ok
-returns-in-Ok c =
-    let P : Meaning → Type 0 = λ m. Holds m c.args.size c.args.rows c.args.columns c.args.cells.now c.build-in-Ok.new.blocks in
-    let f = c.in-Ok.f in
-    let known = c.in-Ok.ensures in
-    λ z. of_shift P c.args.field f.degree known.0 known.2
-    (accepted c.build-in-Ok.result c.answer-in-Ok.result (P (shift_field f.degree)) c.answer-in-Ok.ensures c.build-in-Ok.ensures z)
+returns-in-Ok c = λ z.
+    let P : Meaning → ℕ → ℕ → ℕ → Type 0 = λ m e rows columns. Holds m e rows columns c.args.cells.now c.build.new.blocks in
+    of_code P c.in-Ok.ensures.field c.in-Ok.ensures.shape (accepted c.build.result c.answer.result _ c.answer.ensures c.build.ensures z)
