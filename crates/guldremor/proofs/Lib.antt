@@ -1,3 +1,2 @@
 pub mod Numerals
-pub mod Overs
-pub mod SessionsChecked
+pub mod Fronts

@@ -1,37 +1,31 @@
--- The field that a script has chosen, and the array that it has drawn over it.
-use Rattle.std.specs.Prelude.{Bool, true, false, Some, None, Option, ◌==◌}
-use Rattle.field.specs.Meaning.{Meaning}
-use Rattle.field.specs.Shift.{shift_field}
+-- The field that a script has chosen, the array that it has drawn over it, and how long the buffers are that calls are lent.
+use Rattle.std.specs.Prelude.{ℕ, Some, None, Option}
+use Rattle.field.specs.declared.any.AnyField.{AnyField}
 use Rattle.array.specs.declared.shape.Shape.{Shape}
-use Rattle.guldremor.specs.declared.session.Chosen.{Chosen}
-use Rattle.guldremor.specs.declared.session.Chosen.TheVariants.{Shift, Table}
-use Rattle.guldremor.specs.declared.session.Drawn.{Drawn}
-use Rattle.guldremor.specs.declared.session.Drawn.TheVariants.{Shift as OverShift, Table as OverTable}
+use Rattle.guldremor.specs.declared.session.Session.{Session}
+use Rattle.guldremor.specs.declared.session.Stage.{Stage}
+use Rattle.guldremor.specs.declared.session.Stage.TheVariants.{Start, Chosen, Drawn}
 
-abbrev pub meaning_of : Chosen → Meaning
-meaning_of (Shift f) = shift_field f.degree
-meaning_of (Table f) = shift_field 9
+-- the field, if one is chosen
+abbrev pub field_of : Stage → Option AnyField
+field_of Start = None
+field_of (Chosen f) = Some f
+field_of (Drawn e) = Some e.field
 
--- the field of a drawn array
-abbrev pub chosen_of : Drawn → Chosen
-chosen_of (OverShift e) = Shift e.field
-chosen_of (OverTable e) = Table e.field
+-- the shape of the array, if one is drawn
+abbrev pub shape_of : Stage → Option Shape
+shape_of Start = None
+shape_of (Chosen f) = None
+shape_of (Drawn e) = Some e.history.shape
 
--- its shape
-abbrev pub drawn_shape : Drawn → Shape
-drawn_shape (OverShift e) = e.history.shape
-drawn_shape (OverTable e) = e.history.shape
+-- how many cells, block symbols, records, and symbols for answers and for working are lent
+pub record Lengths : Type 0 where
+  pub cells : ℕ
+  pub blocks : ℕ
+  pub records : ℕ
+  pub out : ℕ
+  pub work : ℕ
 
--- the shape of what is drawn, if there is something
-abbrev pub shape_of : Option Drawn → Option Shape
-shape_of None = None
-shape_of (Some d) = Some (drawn_shape d)
-
--- what is drawn, if there is something, is drawn over the field that was chosen
-abbrev pub is_over : Option Chosen → Option Drawn → Bool
-is_over field None = true
-is_over None (Some d) = false
-is_over (Some (Shift f)) (Some (OverShift e)) = f.degree == e.field.degree
-is_over (Some (Shift f)) (Some (OverTable e)) = false
-is_over (Some (Table f)) (Some (OverShift e)) = false
-is_over (Some (Table f)) (Some (OverTable e)) = true
+abbrev pub lent_of : Session → Lengths
+lent_of s = record
+    { cells = s.cells.length; blocks = s.blocks.length; records = s.records.length; out = s.out.length; work = s.work.length }

@@ -2,8 +2,9 @@
 ghost use Rattle.std.specs.Prelude.{◌≡◌, ◌+◌, ◌*◌, ◌/◌, ◌<◌, ◌≤◌};
 
 use array::{Cell, CellRow};
-use code::Verdict;
+use code::{FailedCheck, Verdict};
 use coder::Unrecovered;
+use editor::Parameters;
 use field::Symbol;
 use refusal::Refusal;
 use std::alloc::{AllocError, AllocFailed};
@@ -19,12 +20,7 @@ pub enum Answer {
     Word(Vec<Symbol>),
     Message(Vec<Symbol>),
     Sizes(Vec<SizeLine>),
-    Size {
-        size: usize,
-        rows: usize,
-        columns: usize,
-        dimension: usize,
-    },
+    Size(Parameters),
 }
 
 // One line of the table of sizes.
@@ -39,26 +35,12 @@ pub enum Trouble<'a> {
     // the library refuses
     Refused(Refusal),
     // no message is recovered, since the word fails a parity check
-    Fails {
-        row: usize,
-        s: usize,
-        syndrome: Symbol,
-    },
+    Fails(FailedCheck),
     // the line is no command, with the word that is wrong
     Word(&'static str, &'a str),
     // the line is no command
     Line(&'static str),
     Memory(AllocError),
-}
-
-impl Trouble<'_> {
-    // Is it the library that refuses, and not a line that is no command?
-    pub fn is_refusal(&self) -> bool {
-        match self {
-            Trouble::Refused(_) | Trouble::Fails { .. } => true,
-            _ => false,
-        }
-    }
 }
 
 impl From<AllocError> for Trouble<'_> {
@@ -83,7 +65,7 @@ impl From<Unrecovered> for Trouble<'_> {
     fn from(why: Unrecovered) -> Self {
         match why {
             Unrecovered::Refused(refusal) => Trouble::Refused(refusal),
-            Unrecovered::Fails { row, s, syndrome } => Trouble::Fails { row, s, syndrome },
+            Unrecovered::Fails(failed) => Trouble::Fails(failed),
         }
     }
 }
@@ -139,26 +121,22 @@ impl fmt::Display for Answer {
             Answer::Cell(row) => {
                 write!(f, "cell")?;
                 for term in Cell::from(*row).terms() {
-                    let shift = term.shift;
-                    let coefficient = term.coefficient;
-                    write!(f, " {shift}:{coefficient}")?;
+                    write!(f, " {term}")?;
                 }
                 Ok(())
             }
             Answer::Word(word) => write_symbols(f, "word", word.as_slice()),
             Answer::Message(message) => write_symbols(f, "message", message.as_slice()),
             Answer::Sizes(lines) => write_sizes(f, lines.as_slice()),
-            Answer::Size {
-                size,
-                rows,
-                columns,
-                dimension,
-            } => write!(f, "size {size} {rows} {columns} {dimension}"),
-            Answer::Verdict(Verdict::Passes) => write!(f, "passes"),
-            Answer::Verdict(Verdict::Fails { row, s, syndrome }) => write!(
-                f,
-                "fails {row} {s} {syndrome}"
-            ),
+            Answer::Size(p) => {
+                let size = p.size;
+                let rows = p.rows;
+                let columns = p.columns;
+                let dimension = p.dimension;
+                write!(f, "size {size} {rows} {columns} {dimension}")
+            }
+            Answer::Verdict(Ok(())) => write!(f, "passes"),
+            Answer::Verdict(Err(failed)) => write!(f, "fails {failed}"),
         }
     }
 }
@@ -167,9 +145,9 @@ impl fmt::Display for Trouble<'_> {
     fn fmt<W: fmt::Write>(&self, f: &mut fmt::Formatter<W>) -> fmt::Result {
         match self {
             Trouble::Refused(refusal) => write!(f, "refused {refusal}"),
-            Trouble::Fails { row, s, syndrome } => {
+            Trouble::Fails(failed) => {
                 let number = Refusal::Check.number();
-                write!(f, "refused {number} {row} {s} {syndrome}")
+                write!(f, "refused {number} {failed}")
             }
             Trouble::Word(why, word) => write!(f, "{why}: {word}"),
             Trouble::Line(why) => write!(f, "{why}"),

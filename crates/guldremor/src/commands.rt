@@ -1,8 +1,9 @@
 // The commands of a script.
 use super::answer::{Answer, Trouble};
-use super::session::{Chosen, Session};
+use super::session::Session;
 use super::words::{expect_end, next_number, read_symbol, read_term};
-use field::{ShiftField, Symbol, TableField};
+use array::Term;
+use field::{AnyField, ShiftField, Symbol, TableField};
 use std::alloc::Global;
 use std::str::SplitWhitespace;
 
@@ -39,11 +40,11 @@ fn choose_field<'a>(
         Some("shift") => {
             let degree = next_number(&mut words)?;
             expect_end(&mut words)?;
-            Chosen::Shift(ShiftField::new(if degree < 255 { degree as u8 } else { 255 })?)
+            AnyField::Shift(ShiftField::new(u8::try_from(degree).unwrap_or(u8::MAX))?)
         }
         Some("table") => {
             expect_end(&mut words)?;
-            Chosen::Table(TableField)
+            AnyField::Table(TableField)
         }
         Some(word) => return Err(Trouble::Word("no such field", word)),
         None => return Err(Trouble::Line("the field is missing: shift DEGREE, or table")),
@@ -71,10 +72,7 @@ fn place_cell<'a>(
 ) -> Result<Answer, Trouble<'a>> {
     let row = next_number(&mut words)?;
     let column = next_number(&mut words)?;
-    let mut terms = Vec::new(session.heap());
-    for word in words {
-        terms.push(read_term(word)?)?;
-    }
+    let terms: Vec<Term> = words.map(read_term).try_collect(session.heap())?;
     session.place(row, column, terms.as_slice())?;
     Ok(Answer::Done)
 }
@@ -144,11 +142,7 @@ fn show_cell<'a>(session: &Session, mut words: SplitWhitespace<'a>) -> Result<An
 }
 
 fn read_symbols<'a>(heap: Global, words: SplitWhitespace<'a>) -> Result<Vec<Symbol>, Trouble<'a>> {
-    let mut symbols = Vec::new(heap);
-    for word in words {
-        symbols.push(read_symbol(word)?)?;
-    }
-    Ok(symbols)
+    words.map(read_symbol).try_collect(heap)
 }
 
 // check SYMBOL ..
@@ -190,11 +184,5 @@ fn show_size<'a>(
     mut words: SplitWhitespace<'a>,
 ) -> Result<Answer, Trouble<'a>> {
     expect_end(&mut words)?;
-    let (size, rows, columns, dimension) = session.dimension()?;
-    Ok(Answer::Size {
-        size,
-        rows,
-        columns,
-        dimension,
-    })
+    Ok(Answer::Size(session.parameters()?))
 }

@@ -4,6 +4,7 @@
 
 mod answer;
 mod commands;
+mod lent;
 mod session;
 mod words;
 
@@ -29,13 +30,10 @@ fn make_line(
     match commands::make(session, name, words) {
         Ok(answer) => println!(rt; "{answer}")?,
         Err(Trouble::Memory(e)) => return Err(e.into()),
+        Err(trouble @ (Trouble::Refused(_) | Trouble::Fails(_))) => println!(rt; "{trouble}")?,
         Err(trouble) => {
-            if trouble.is_refusal() {
-                println!(rt; "{trouble}")?;
-            } else {
-                println!(rt; "error: line {number}: {trouble}")?;
-                return Ok(false);
-            }
+            println!(rt; "error: line {number}: {trouble}")?;
+            return Ok(false);
         }
     }
     Ok(true)

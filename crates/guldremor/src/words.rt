@@ -18,10 +18,10 @@ fn number_of(word: &str) -> Option<u64>
     }
     let mut n: u64 = 0;
     for b in bytes {
-        if *b < 48 || *b > 57 {
+        if !b.is_ascii_digit() {
             return None;
         }
-        n = append_digit(n, *b - 48);
+        n = append_digit(n, *b - b'0');
     }
     Some(n)
 }
@@ -37,7 +37,7 @@ fn append_digit(n: u64, digit: u8) -> u64
 fn narrow(n: u64) -> u16
     ensures { result ≡ min n 65535 }
 {
-    if n < 65535 { n as u16 } else { 65535 }
+    u16::try_from(n).unwrap_or(u16::MAX)
 }
 
 pub fn read_number(word: &str) -> Result<u64, Trouble<'_>>
@@ -45,10 +45,7 @@ pub fn read_number(word: &str) -> Result<u64, Trouble<'_>>
         (λ n. (numeral word.now ≡ true) × (n ≡ value word.now))
         (λ _. numeral word.now ≡ false) }
 {
-    match number_of(word) {
-        Some(n) => Ok(n),
-        None => Err(Trouble::Word("not a number", word)),
-    }
+    number_of(word).ok_or(Trouble::Word("not a number", word))
 }
 
 pub fn read_symbol(word: &str) -> Result<u16, Trouble<'_>>

@@ -3,7 +3,7 @@ use array::CellRow;
 // One change as plain numbers, of any content: how a record buffer holds changes.
 // Kind 1 puts a cell at a row and a column, kind 2 takes another circulant size.
 // The parts that belong to the other kind are 0, or the empty cell.
-#[derive(Clone, Copy)]
+#[derive(Clone, Copy, PartialEq, Eq, Debug, Default)]
 pub struct ChangeRecord {
     pub kind: u8,
     pub row: u8,

@@ -1,20 +1,15 @@
-use Rattle.std.proofs.Common.{◌≡◌, ℕ, ◌-◌, ◌^◌, ◌<◌, min, not, eqb, ◌⊎◌, List, length, get_or, take, sym, ap, ◌∙◌, inl, inr}
+use Rattle.std.proofs.Common.{◌≡◌, ℕ, ◌-◌, ◌^◌, min, false, not, ◌&&◌, eqb, leb, List, length, get_or, take, sym, ap, ◌∙◌}
 use Rattle.std.proofs.lemmas.List.{take_all}
 use Rattle.std.proofs.lemmas.Bool.{and_from, and_right}
 use Rattle.guldremor.specs.Words.{digits, decimal, numeral}
 use Rattle.guldremor.proofs.Numerals.{digits_more, value_more, no_digit}
 use Rattle.guldremor.proofs.words.number_of.Goals as goal
-use Rattle.guldremor.proofs.words.number_of.Goals.{then-b-lt48-via-then-b-lt48, then-b-lt48-via-else-b-lt48+then-b-gt57}
 
-pub returns-then-b-lt48 : goal.returns-then-b-lt48
-returns-then-b-lt48 c =
+pub returns-then-not-is_ascii_digit : goal.returns-then-not-is_ascii_digit
+returns-then-not-is_ascii_digit c =
     let bs = c.as_bytes-bytes.result.now in
     let i = c.loop-b.b-index in
-    let w : (get_or bs i 0 < 48) ⊎ (57 < get_or bs i 0) =
-    elim c.then-b-lt48.branch [
-      | then-b-lt48-via-then-b-lt48 w ↦ inl w.if-b-lt48.true
-      | then-b-lt48-via-else-b-lt48+then-b-gt57 w ↦ inr w.if-b-gt57.true
-    ] in
+    let w : (leb 48 (get_or bs i 0) && leb (get_or bs i 0) 57) ≡ false = sym c.if-not-is_ascii_digit.ensures.value in
     ap numeral (sym c.as_bytes-bytes.ensures.value)
     ∙ and_right (not (eqb (length bs) 0)) (digits bs) (no_digit bs i c.loop-b-test.true w)
 
@@ -22,7 +17,7 @@ pub loop-b-preserved : goal.loop-b-preserved
 loop-b-preserved c =
     let bs = c.as_bytes-bytes.result.now in
     let i = c.loop-b.b-index in (
-      digits_more bs i c.loop-b-test.true c.loop-b.invariant.0 c.if-b-lt48.false c.if-b-gt57.false,
+      digits_more bs i c.loop-b-test.true c.loop-b.invariant.0 (sym c.if-not-is_ascii_digit.ensures.value),
       value_more bs i c.loop-b.n c.append_digit-n.result c.loop-b-test.true c.loop-b.invariant.1 c.append_digit-n.ensures,
     )
 

@@ -1,38 +1,21 @@
--- A drawn array is over the field that was chosen, and what holds of the cells that are lent holds of all that the session has.
-use Rattle.std.proofs.Common.{◌≡◌, ℕ, ◌+◌, ◌*◌, ◌<◌, ◌≤◌, List, length, take, get_or, Some, None, Option, Ok, IsTrue, sym, refl, ap, ◌∙◌, mul-le-mul_left, mul_comm, arith}
-use Rattle.std.proofs.lemmas.Bool.{eqb-true}
+-- What holds of the cells that are lent holds of all that the session has, and what passes at the front of a buffer passes alone.
+use Rattle.std.proofs.Common.{◌≡◌, ℕ, ◌+◌, ◌*◌, ◌<◌, ◌≤◌, List, length, take, get_or, Ok, Err, sym, ap, ◌∙◌, subst, mul-le-mul_left, mul_comm, arith}
 use Rattle.std.proofs.lemmas.Nat.{mul-add-lt}
 use Rattle.std.proofs.lemmas.List.{get_or-take, length-take}
 use Rattle.field.specs.Meaning.{Meaning, Lawful}
-use Rattle.field.specs.Shift.{shift_field}
-use Rattle.field.specs.Laws.{shift_lawful, table_lawful}
+use Rattle.field.specs.Laws.{shift_lawful}
+use Rattle.field.specs.AnyField.{degree_of, degree_of_low, degree_of_high, meaning_of}
+use Rattle.field.specs.declared.any.AnyField.{AnyField}
 use Rattle.array.specs.declared.plain.CellRow.{CellRow}
 use Rattle.array.specs.declared.shape.Shape.{Shape}
 use Rattle.array.specs.Buffers.{blank, cell_at}
 use Rattle.array.specs.Cells.{terms_of}
 use Rattle.algebra.proofs.Sums.{total_same}
-use Rattle.code.specs.declared.receiver.Verdict.{Verdict}
-use Rattle.code.specs.declared.receiver.Verdict.TheVariants.{Passes, Fails}
-use Rattle.code.specs.Checks.{cell_sum, syndrome, PassesAll, Checked}
+use Rattle.code.specs.Checks.{Verdict, cell_sum, syndrome, PassesAll, Checked}
 use Rattle.code.proofs.Sums.{cell_sum_same}
-use Rattle.guldremor.specs.declared.session.Chosen.{Chosen}
-use Rattle.guldremor.specs.declared.session.Chosen.TheVariants.{Shift, Table}
-use Rattle.guldremor.specs.declared.session.Drawn.{Drawn}
-use Rattle.guldremor.specs.declared.session.Drawn.TheVariants.{Shift as OverShift, Table as OverTable}
-use Rattle.guldremor.specs.Sessions.{meaning_of, chosen_of, is_over}
 
-pub over_field : (field : Option Chosen) (d : Drawn) → IsTrue (is_over field (Some d))
-    → (f : Chosen) × (field ≡ Some f) × (meaning_of f ≡ meaning_of (chosen_of d))
-over_field None (OverShift e) h = cc
-over_field None (OverTable e) h = cc
-over_field (Some (Shift f)) (OverShift e) h = (Shift f, refl, ap shift_field (eqb-true f.degree e.field.degree h))
-over_field (Some (Shift f)) (OverTable e) h = cc
-over_field (Some (Table f)) (OverShift e) h = cc
-over_field (Some (Table f)) (OverTable e) h = (Table f, refl, refl)
-
-lawful_of : (f : Chosen) → Lawful (meaning_of f)
-lawful_of (Shift f) = shift_lawful f.degree f.degree_low f.degree_high
-lawful_of (Table f) = table_lawful
+lawful_of : (f : AnyField) → Lawful (meaning_of f)
+lawful_of f = shift_lawful (degree_of f) (degree_of_low f) (degree_of_high f)
 
 -- a place of an array is among the first 512
 pub place_first : (s : Shape) (i j : ℕ) → i < s.rows → j < s.columns → i * s.columns + j < 512
@@ -54,28 +37,36 @@ module _ (f : Meaning) (w : Lawful f) (s : Shape) (n : ℕ) (cells : List CellRo
       (λ j g. ap (λ (c : CellRow). cell_sum f s.size (terms_of c) (λ m. get_or word (j * s.size + m) 0) k) (cell_first s n cells i j h g l))
 
 -- a verdict on the first n cells is one on all
-pub checked_first : (c : Chosen) (s : Shape) (n : ℕ) (cells : List CellRow) (word : List ℕ) (v : Verdict)
+pub checked_first : (c : AnyField) (s : Shape) (n : ℕ) (cells : List CellRow) (word : List ℕ) (v : Verdict)
     → Checked (meaning_of c) s.size s.rows s.columns (take n cells) word (Ok v)
     → Checked (meaning_of c) s.size s.rows s.columns cells word (Ok v)
-checked_first c s n cells word Passes h =
+checked_first c s n cells word (Ok _) h =
     let same = syndrome_first (meaning_of c) (lawful_of c) s n cells word h.0.0 in
     ((omega (arith, h.0.0, length-take n cells), h.0.1, h.0.2), λ i k a b. sym (same i k a) ∙ h.1 i k a b)
-checked_first c s n cells word (Fails i k x) h =
+checked_first c s n cells word (Err x) h =
     let same = syndrome_first (meaning_of c) (lawful_of c) s n cells word h.0.0 in
     let d = h.1 in (
       (omega (arith, h.0.0, length-take n cells), h.0.1, h.0.2),
       record {
         row_within = d.row_within;
         s_within = d.s_within;
-        value = d.value ∙ same i k d.row_within;
+        value = d.value ∙ same x.row x.s d.row_within;
         nonzero = d.nonzero;
         rows_before = λ g m a b. sym (same g m (omega (arith, a, d.row_within))) ∙ d.rows_before g m a b;
-        before = λ m a. sym (same i m d.row_within) ∙ d.before m a;
+        before = λ m a. sym (same x.row m d.row_within) ∙ d.before m a;
       },
     )
 
+-- a verdict on cells and a field stands for equal cells and an equal field
+pub verdict_stands : (f h : AnyField) (e rows columns : ℕ) (cells held : List CellRow) (word : List ℕ) (v u : Verdict)
+    → f ≡ h → cells ≡ held → u ≡ v → Checked (meaning_of h) e rows columns cells word (Ok v) → Checked (meaning_of f) e rows columns held word (Ok u)
+verdict_stands f h e rows columns cells held word v u ef ec ev c =
+    subst (λ (x : Verdict). Checked (meaning_of f) e rows columns held word (Ok x)) (sym ev)
+    (subst (λ (x : List CellRow). Checked (meaning_of f) e rows columns x word (Ok v)) ec
+    (subst (λ (x : AnyField). Checked (meaning_of x) e rows columns cells word (Ok v)) (sym ef) c))
+
 -- a word passes as it stands at the front of a longer buffer
-pub passes_taken : (c : Chosen) (s : Shape) (cells : List CellRow) (out : List ℕ) (n : ℕ) → n ≡ s.columns * s.size
+pub passes_taken : (c : AnyField) (s : Shape) (cells : List CellRow) (out : List ℕ) (n : ℕ) → n ≡ s.columns * s.size
     → PassesAll (meaning_of c) s.size s.rows s.columns cells out → PassesAll (meaning_of c) s.size s.rows s.columns cells (take n out)
 passes_taken c s cells out n e h i k a b =
     let f = meaning_of c in
