@@ -1,18 +1,18 @@
 -- Place k of every block, changed frequency by frequency.
-use Rattle.std.proofs.Common.{◌≡◌, ℕ, ◌+◌, ◌*◌, ◌/◌, ◌%◌, ◌<◌, ◌≤◌, List, length, get_or, set, sym, refl, ap, ◌∙◌, subst, ap₂, ⊎_elim, add-one, arith}
+use Rattle.std.proofs.Common.{◌≡◌, ℕ, ◌+◌, ◌*◌, ◌/◌, ◌%◌, ◌<◌, ◌≤◌, List, length, get_or, set, sym, ap, ◌∙◌, subst, ap₂, ⊎_elim, add-one, arith}
 use Rattle.std.proofs.lemmas.Nat.{mul-add-lt, div-mul-add, mod-mul-add}
 use Rattle.std.proofs.lemmas.List.{get_or-set_same, get_or-set_other}
 use Rattle.std.proofs.lemmas.Bool.{cases_eq}
 use Rattle.field.specs.Meaning.{Meaning, Lawful, power}
-use Rattle.algebra.proofs.Powers.{power_below, power_mul, product_one_right}
+use Rattle.algebra.proofs.Powers.{power_below, power_mul}
 use Rattle.field.specs.Sums.{total}
 use Rattle.algebra.specs.Transforms.{root}
-use Rattle.algebra.proofs.Sums.{sum_zero_right, total_below}
+use Rattle.algebra.proofs.Sums.{total_below}
 use Rattle.array.specs.declared.plain.Term.{Term}
 use Rattle.array.specs.declared.plain.CellRow.{CellRow}
 use Rattle.array.specs.Buffers.{blank}
 use Rattle.array.specs.Cells.{no_term, terms_of}
-use Rattle.blocks.specs.Blocks.{terms_at, AddedAt, Built}
+use Rattle.blocks.specs.Blocks.{terms_at, AddedAt}
 
 -- the frequencies below n are done
 pub record AddedTo (f : Meaning) (places e k : ℕ) (v : ℕ → ℕ) (before after : List ℕ) (n : ℕ) : Type 0 where
@@ -48,9 +48,6 @@ module _ (f : Meaning) (places e k n : ℕ) (v : ℕ → ℕ) (before after : Li
     past = λ i l. kept i (λ s. omega (arith, mul-add-lt n places k e hn hk)) ∙ a.past i l;
   }
 
-pub added_none : (f : Meaning) (places e k : ℕ) (v : ℕ → ℕ) (before : List ℕ) → AddedTo f places e k v before before 0
-added_none f places e k v before = record { done = λ t l. absurd (omega arith); rest = λ t l. refl; others = λ i ne. refl; past = λ i l. refl }
-
 pub added_like : (f : Meaning) (places e k : ℕ) (v u : ℕ → ℕ) (before after : List ℕ) → ((t : ℕ) → v t ≡ u t)
     → AddedAt f places e k v before after → AddedAt f places e k u before after
 added_like f places e k v u before after h a = record {
@@ -61,9 +58,6 @@ added_like f places e k v u before after h a = record {
 
 -- a term at frequency t, by steps of one power
 module _ (f : Meaning) (w : Lawful f) (c p step : ℕ) (ep : p ≡ f.product c 1) where
-  pub term_first : p ≡ f.product p (power f step 0)
-  term_first = sym (product_one_right f w p (subst (λ (x : ℕ). x < f.q) (sym ep) (w.product_below c 1)))
-
   pub term_next : (r x t : ℕ) → r ≡ f.product p (power f step t) → x ≡ f.product r step → x ≡ f.product p (power f step (t + 1))
   term_next r x t er ex =
       ex ∙ ap (λ (y : ℕ). f.product y step) er ∙ w.product_assoc p (power f step t) step
@@ -75,24 +69,6 @@ module _ (f : Meaning) (w : Lawful f) (c p step : ℕ) (ep : p ≡ f.product c 1
       ∙ w.product_assoc c 1 (power f root (s * t)) ∙ ap (f.product c) (w.product_one (power f root (s * t)) (power_below f w root (s * t)))
 
 -- cell by cell
-
-pub added_start : (f : Meaning) → Lawful f → (places e k : ℕ) (before : List ℕ)
-    → ((t : ℕ) → t < e → get_or before (t * places + k) 0 < f.q) → AddedAt f places e k (λ t. 0) before before
-added_start f w places e k before h = record {
-  here = λ t l. sym (sum_zero_right f w (get_or before (t * places + k) 0) (h t l));
-  others = λ i ne. refl;
-  past = λ i l. refl;
-}
-
-pub added_join : (f : Meaning) → Lawful f → (places e k : ℕ) (v u z : ℕ → ℕ) (before mid after : List ℕ) → ((t : ℕ) → f.sum (v t) (u t) ≡ z t)
-    → AddedAt f places e k v before mid → AddedAt f places e k u mid after → AddedAt f places e k z before after
-added_join f w places e k v u z before mid after h a b = record {
-  here = λ t l.
-      b.here t l ∙ ap (λ (x : ℕ). f.sum x (u t)) (a.here t l) ∙ w.sum_assoc (get_or before (t * places + k) 0) (v t) (u t)
-      ∙ ap (f.sum (get_or before (t * places + k) 0)) (h t);
-  others = λ i ne. b.others i ne ∙ a.others i ne;
-  past = λ i l. b.past i l ∙ a.past i l;
-}
 
 pub total_more : (f : Meaning) (n : ℕ) (t : ℕ → ℕ) → f.sum (total f n t) (t n) ≡ total f (n + 1) t
 total_more f n t = ap (λ (k : ℕ). total f k t) (sym (add-one n))
@@ -132,7 +108,3 @@ module _ (f : Meaning) (w : Lawful f) (places e k : ℕ) (cells : List CellRow) 
     rest = λ t j l h g. same t j g (λ s. omega arith) ∙ a.rest t j l (omega arith) g;
     past = λ i l. b.past i l ∙ a.past i l;
   }
-
-pub built_all : (f : Meaning) (places e : ℕ) (cells : List CellRow) (before after : List ℕ) (k : ℕ) → places ≤ k
-    → BuiltTo f places e cells before after k → Built f places e cells before after
-built_all f places e cells before after k h a = record { entry = λ t j l g. a.entry t j l (omega arith); past = a.past }

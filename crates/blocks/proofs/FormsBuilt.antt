@@ -9,7 +9,7 @@ use Rattle.algebra.specs.Transforms.{root, check_block}
 use Rattle.algebra.proofs.Generators.{generator_by_terms}
 use Rattle.algebra.proofs.Sums.{total_below}
 use Rattle.reduction.specs.Blocks.{Outcome}
-use Rattle.reduction.proofs.Parts.{outcome_reduced, reduced_same, part_block, part_reduced, put_before, put_after}
+use Rattle.reduction.proofs.Parts.{outcome_reduced, reduced_same, part_block, part_reduced, put_after}
 use Rattle.array.specs.declared.plain.CellRow.{CellRow}
 use Rattle.array.specs.Buffers.{blank, cell_at}
 use Rattle.array.specs.Cells.{no_term, terms_of}
@@ -39,9 +39,6 @@ module _ (f : Meaning) (w : Lawful f) (rows columns e : ℕ) (cells : List CellR
 pub record ReducedTo (f : Meaning) (rows columns e : ℕ) (before after : List ℕ) (n : ℕ) : Type 0 where
   pub done : (t : ℕ) → t < n → (rank : ℕ) × Reduced f rows columns (block_at rows columns before t) (block_at rows columns after t) rank
   pub rest : (k : ℕ) → n * (rows * columns) ≤ k → get_or after k 0 ≡ get_or before k 0
-
-pub reduced_none : (f : Meaning) (rows columns e : ℕ) (before : List ℕ) → ReducedTo f rows columns e before before 0
-reduced_none f rows columns e before = record { done = λ t l. absurd (omega arith); rest = λ k l. refl }
 
 module _ (f : Meaning) (w : Lawful f) (rows columns e n : ℕ) (before mid after : List ℕ) (a : ReducedTo f rows columns e before mid n)
     (r : (rank : ℕ) × Reduced f rows columns (block_at rows columns mid n) (block_at rows columns after n) rank)
@@ -100,9 +97,6 @@ module _ (f : Meaning) (w : Lawful f) (rows columns r c start t n : ℕ) (xs ys 
         subst (λ (s : ℕ). Reduced f rows columns (λ i j. get_or xs (s + (i * columns + j)) 0) (λ i j. get_or (put_mid start n xs ys) (s + (i * columns + j)) 0) d.0)
             es (part_reduced f w rows columns start n xs ys en within kept d.0 d.2),
       )
-
-  pub part_before : (k : ℕ) → k < t * (rows * columns) → get_or (put_mid start n xs ys) k 0 ≡ get_or xs k 0
-  part_before k l = put_before f w rows columns start n xs ys en within kept k (omega arith)
 
   pub part_past : (k : ℕ) → (t + 1) * (rows * columns) ≤ k → get_or (put_mid start n xs ys) k 0 ≡ get_or xs k 0
   part_past k l = put_after f w rows columns start n xs ys en within kept k (omega (arith, add-mul t 1 (rows * columns)))

@@ -1,3 +1,4 @@
 pub mod Squares
 pub mod Adds
 pub mod FormsBuilt
+pub mod Shapes

@@ -4,29 +4,53 @@ ghost use Rattle.refusal.specs.declared.Refusal.TheVariants.{Buffer};
 ghost use Rattle.algebra.specs.Matrices.{Reduced};
 ghost use Rattle.blocks.specs.Blocks.{block_at, Holds};
 
-use super::build::{block_start, build_checks, places};
-use array::{CellRow, Shape};
+use super::build::{BlockBuffer, block_start, places};
+use array::{BLOCK_SYMBOLS, CELLS, CellRow, Shape};
 use field::{Field, Symbol};
 use reduction::reduce;
 use refusal::Refusal;
 
-// Reduces the block at frequency `t`; the other blocks, and what lies past them, stay.
-fn reduce_block<F: Field>(f: &F, shape: &Shape, blocks: &mut [Symbol], t: usize)
-    requires frequency { t < shape.now.size }
-    requires room { 16384 ≤ length blocks.old }
-    requires symbols { (k : ℕ) → k < shape.now.rows * shape.now.columns →
-        slice_index blocks.old (t * (shape.now.rows * shape.now.columns) + k) < (F.Field.meaning f.now).q }
-    ensures reduced { let s = shape.now in
-        ((rank : ℕ) × Reduced (F.Field.meaning f.now) s.rows s.columns
-        (block_at s.rows s.columns blocks.old t) (block_at s.rows s.columns blocks.new t) rank) }
-    ensures before { (k : ℕ) → k < t * (shape.now.rows * shape.now.columns) →
-        slice_index blocks.new k ≡ slice_index blocks.old k }
-    ensures past { (k : ℕ) → (t + 1) * (shape.now.rows * shape.now.columns) ≤ k →
-        slice_index blocks.new k ≡ slice_index blocks.old k }
-{
-    let start = block_start(shape, t);
-    let end = start + places(shape);
-    let _ = reduce(f, &mut blocks[start..end], shape.rows(), shape.columns());
+impl BlockBuffer<'_> {
+    ghost use Rattle.blocks.specs.Buffers.{IsSameBuffer};
+
+    // Reduces the block at frequency `t`; the other blocks, and what lies past them, stay.
+    fn reduce_block<F: Field>(&mut self, f: &F, t: usize)
+        requires frequency { t < self.old.shape.size }
+        requires symbols { let s = self.old.shape in
+            ((k : ℕ) → k < s.rows * s.columns →
+            slice_index self.old.symbols.now (t * (s.rows * s.columns) + k) < (F.Field.meaning f.now).q) }
+        ensures same { IsSameBuffer self.old self.new }
+        ensures reduced { let s = self.old.shape in
+            ((rank : ℕ) × Reduced (F.Field.meaning f.now) s.rows s.columns
+            (block_at s.rows s.columns self.old.symbols.now t) (block_at s.rows s.columns self.new.symbols.now t) rank) }
+        ensures before { let s = self.old.shape in
+            ((k : ℕ) → k < t * (s.rows * s.columns) →
+            slice_index self.new.symbols.now k ≡ slice_index self.old.symbols.now k) }
+        ensures past { let s = self.old.shape in
+            ((k : ℕ) → (t + 1) * (s.rows * s.columns) ≤ k →
+            slice_index self.new.symbols.now k ≡ slice_index self.old.symbols.now k) }
+    {
+        let start = block_start(&self.shape, t);
+        let end = start + places(&self.shape);
+        let rows = self.shape.rows();
+        let columns = self.shape.columns();
+        let _ = reduce(f, &mut self.symbols[start..end], rows, columns);
+    }
+
+    // The echelon forms of the array's check blocks; what lies past them in the buffer stays.
+    fn fill<F: Field>(&mut self, f: &F, cells: &[CellRow])
+        requires cells { 512 ≤ length cells.now }
+        ensures same { IsSameBuffer self.old self.new }
+        ensures held { let s = self.old.shape in
+            Holds (F.Field.meaning f.now) s.size s.rows s.columns cells.now self.new.symbols.now }
+        ensures past { let s = self.old.shape in
+            ((i : ℕ) → s.rows * s.columns * s.size ≤ i → slice_index self.new.symbols.now i ≡ slice_index self.old.symbols.now i) }
+    {
+        self.build_checks(f, cells);
+        for t in 0..self.shape.size() {
+            self.reduce_block(f, t);
+        }
+    }
 }
 
 // Fills the block buffer with the echelon forms of the array in the cell buffer. What lies past them in the buffer stays.
@@ -46,12 +70,13 @@ pub fn build_forms<F: Field>(
         × ((i : ℕ) → s.rows * s.columns * s.size ≤ i → slice_index new i ≡ slice_index was i))
         (λ x. (x ≡ Buffer) × (512 ≤ length cells.now → length was < 16384) × (new ≡ was)) }
 {
-    if cells.len() < 512 || blocks.len() < 16384 {
+    if cells.len() < CELLS || blocks.len() < BLOCK_SYMBOLS {
         return Err(Refusal::Buffer);
     }
-    build_checks(f, shape, cells, blocks);
-    for t in 0..shape.size() {
-        reduce_block(f, shape, blocks, t);
-    }
+    let mut buffer = BlockBuffer {
+        shape: *shape,
+        symbols: blocks,
+    };
+    buffer.fill(f, cells);
     Ok(())
 }

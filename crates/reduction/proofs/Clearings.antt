@@ -28,10 +28,6 @@ module _ (f : Meaning) (w : Lawful f) where
 
   module _ (rows c : ℕ) (m n : ℕ → ℕ → ℕ) where
     -- row a scaled by the inverse of its entry in column k
-    pub pivot_one : (a k : ℕ) → k < c → 0 < m a k → m a k < f.q
-        → RowIs rows c m n a (λ j. f.product (f.inverse (m a k)) (m a j)) → n a k ≡ 1
-    pivot_one a k lk lo hi r = r.here k lk ∙ w.product_comm (f.inverse (m a k)) (m a k) ∙ w.product_inverse (m a k) lo hi
-
     pub pivot_nulls : (a k : ℕ) → a < rows → 0 < m a k → m a k < f.q
         → RowIs rows c m n a (λ j. f.product (f.inverse (m a k)) (m a j)) → SameNull f rows c m n
     pivot_nulls a k la lo hi r =

@@ -1,8 +1,8 @@
 -- One column's step: exchange, scaling and clearing together.
-use Rattle.std.proofs.Common.{◌≡◌, ℕ, ◌+◌, ◌<◌, ◌≤◌, sym, ap, ◌∙◌, ⊎_elim, arith}
+use Rattle.std.proofs.Common.{◌≡◌, ℕ, ◌+◌, ◌<◌, ◌≤◌, sym, ap, ◌∙◌, ⊎_elim, arith, Option, Some, None, MatchOption}
 use Rattle.std.proofs.lemmas.Bool.{cases_eq}
 use Rattle.field.specs.Meaning.{Meaning, Lawful}
-use Rattle.algebra.specs.Matrices.{SameNull, Echelon, Reduced, Swapped, RowIs}
+use Rattle.algebra.specs.Matrices.{SameNull, Echelon, Swapped, RowIs}
 use Rattle.algebra.proofs.Powers.{product_zero}
 use Rattle.algebra.proofs.Sums.{sum_zero_right}
 use Rattle.algebra.proofs.Nulls.{swap_keeps_null_lem, same_null_join}
@@ -10,6 +10,14 @@ use Rattle.reduction.specs.Blocks.{Symbols}
 use Rattle.reduction.specs.Steps.{Pivot, Cleared, Stepped}
 use Rattle.reduction.proofs.Clearings.{same_null_self, swapped_symbols, row_symbols, cleared_symbols}
 use Rattle.reduction.proofs.Eliminations.{echelon_start, echelon_skip, echelon_pivot}
+
+-- the first row from `top` on with an entry in column k is the pivot
+pub pivot_found : (rows : ℕ) (m : ℕ → ℕ → ℕ) (top k : ℕ) (r : Option ℕ)
+    → MatchOption r ((h : ℕ) → top ≤ h → h < rows → m h k ≡ 0)
+    (λ i. (top ≤ i) × (i < rows) × (0 < m i k) × ((h : ℕ) → top ≤ h → h < i → m h k ≡ 0))
+    → MatchOption r ((h : ℕ) → top ≤ h → h < rows → m h k ≡ 0) (λ i. Pivot rows m top k i)
+pivot_found rows m top k None none = none
+pivot_found rows m top k (Some i) p = record { from = p.0; within = p.1; nonzero = p.2; first = p.3 }
 
 module _ (f : Meaning) (w : Lawful f) (rows c k top : ℕ) (m : ℕ → ℕ → ℕ) (symbols : Symbols f.q rows c m) where
   -- there is no pivot
@@ -94,6 +102,3 @@ module _ (f : Meaning) (rows c : ℕ) (m : ℕ → ℕ → ℕ) where
     shape = t.shape s.shape.0 s.shape.1;
     nulls = same_null_join f rows c m n n' s.nulls t.nulls;
   }
-
-  pub swept_all : (n : ℕ → ℕ → ℕ) (top : ℕ) → Swept f rows c m n top c → Reduced f rows c m n top
-  swept_all n top s = record { symbols = s.symbols; shape = s.shape; nulls = s.nulls }

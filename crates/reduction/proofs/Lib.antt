@@ -3,3 +3,4 @@ pub mod Clearings
 pub mod Eliminations
 pub mod Columns
 pub mod Parts
+pub mod Sizes

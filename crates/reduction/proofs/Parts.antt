@@ -94,9 +94,6 @@ module _ (f : Meaning) (w : Lawful f) (rows c start n : ℕ) (xs ys : List ℕ) 
       (λ i j. get_or (put_mid start n xs ys) (start + (i * c + j)) 0) rank
       (λ i j li lj. sym (part_at (i * c + j) (place_below i j li lj))) (λ i j li lj. put_at (i * c + j) (place_below i j li lj)) x
 
-  -- the symbols before and after the block stay
-  pub put_before : (k : ℕ) → k < start → get_or (put_mid start n xs ys) k 0 ≡ get_or xs k 0
-  put_before k l = search (rules, places, part_length)
-
+  -- the symbols after the block stay
   pub put_after : (k : ℕ) → start + n ≤ k → get_or (put_mid start n xs ys) k 0 ≡ get_or xs k 0
   put_after k l = search (rules, places, part_length)

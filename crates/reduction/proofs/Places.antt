@@ -1,9 +1,13 @@
 -- The places of a block, and the row operations up to a column.
-use Rattle.std.proofs.Common.{◌≡◌, ℕ, suc, ◌+◌, ◌*◌, ◌/◌, ◌%◌, ◌<◌, ◌≤◌, List, length, get_or, set, sym, refl, ap, ◌∙◌, subst, ap₂, suc-mul, arith, rules}
-use Rattle.std.proofs.lemmas.List.{length-set, get_or-set_same, get_or-set_other}
+use Rattle.std.proofs.Common.{◌≡◌, ℕ, suc, ◌+◌, ◌-◌, ◌*◌, ◌/◌, ◌%◌, ◌<◌, ◌≤◌, List, length, get_or, set, take, drop, sym, ap, ◌∙◌, subst, ap₂, length-take-le, length-drop, length-append, ⊎_elim, ◌⊎◌, inl, inr, ◌++◌, suc-mul, arith, rules}
+use Rattle.std.proofs.Math.ListN.{get_or-append}
+use borrow.Rule.Slice.PartMut.{put_mid}
+use Rattle.std.proofs.lemmas.Bool.{cases_eq, cases_lt}
+use Rattle.std.proofs.lemmas.List.{places, get_or-set_same, get_or-set_other, get_or-take, get_or-drop, get_or-append-add}
 use Rattle.std.proofs.lemmas.Nat.{mul-le, div-mul-add, mod-mul-add}
 use Rattle.field.specs.Meaning.{Meaning, Lawful}
-use Rattle.reduction.specs.Blocks.{at, Symbols, Block}
+use Rattle.algebra.specs.Matrices.{RowIs, Swapped}
+use Rattle.reduction.specs.Blocks.{at}
 
 -- row a is t before column k, and all else is as it was
 pub record RowTo (rows c : ℕ) (m n : ℕ → ℕ → ℕ) (a : ℕ) (t : ℕ → ℕ) (k : ℕ) : Type 0 where
@@ -11,26 +15,11 @@ pub record RowTo (rows c : ℕ) (m n : ℕ → ℕ → ℕ) (a : ℕ) (t : ℕ �
   pub rest : (j : ℕ) → k ≤ j → j < c → n a j ≡ m a j
   pub others : (i j : ℕ) → i < rows → j < c → (i ≡ a → ⊥) → n i j ≡ m i j
 
--- rows a and h are exchanged before column k, and all else is as it was
-pub record SwapTo (rows c : ℕ) (m n : ℕ → ℕ → ℕ) (a h k : ℕ) : Type 0 where
-  pub first : (j : ℕ) → j < k → n a j ≡ m h j
-  pub second : (j : ℕ) → j < k → n h j ≡ m a j
-  pub first_rest : (j : ℕ) → k ≤ j → j < c → n a j ≡ m a j
-  pub second_rest : (j : ℕ) → k ≤ j → j < c → n h j ≡ m h j
-  pub others : (i j : ℕ) → i < rows → j < c → (i ≡ a → ⊥) → (i ≡ h → ⊥) → n i j ≡ m i j
-
 -- row a ends within the block
 pub row_end : (rows c a : ℕ) → a < rows → a * c + c ≤ rows * c
 row_end rows c a l = omega (arith, suc-mul a c, mul-le (suc a) c rows c l (omega arith))
 
--- the entries of a block are symbols
-pub block_entries : (q rows c : ℕ) (xs : List ℕ) → Block q rows c xs → Symbols q rows c (at c xs)
-block_entries q rows c xs b i j li lj = b.symbols (i * c + j) (omega (arith, b.sized, row_end rows c i li))
-
 module _ (c : ℕ) (xs : List ℕ) (a k x : ℕ) where
-  at_set_here : a * c + k < length xs → at c (set xs (a * c + k) x) a k ≡ x
-  at_set_here h = get_or-set_same xs (a * c + k) x 0 h
-
   at_set_row : (i j : ℕ) → j < c → k < c → (i ≡ a → ⊥) → at c (set xs (a * c + k) x) i j ≡ at c xs i j
   at_set_row i j lj lk d =
       get_or-set_other xs (a * c + k) (i * c + j) x 0
@@ -58,15 +47,6 @@ module _ (rows c : ℕ) (m : ℕ → ℕ → ℕ) (xs : List ℕ) (sized : lengt
       subst (λ (p : ℕ). RowTo rows c m (at c (set xs p x)) a t (k + 1)) same
       (row_more a t k x lk (omega (arith, row_end rows c a la)) e r)
 
-  -- of row a multiplied by a symbol
-  pub scale_next : (f : Meaning) → Lawful f → (a by k x start : ℕ) → a < rows → k < c → start ≡ a * c + 0
-      → x ≡ f.product (get_or xs (start + k) 0) by → RowTo rows c m (at c xs) a (λ j. f.product by (m a j)) k
-      → RowTo rows c m (at c (set xs (start + k) x)) a (λ j. f.product by (m a j)) (k + 1)
-  scale_next f w a by k x start la lk s e r =
-      let read : get_or xs (start + k) 0 ≡ m a k = at_start c xs a k start s ∙ r.rest k (omega arith) lk in
-      row_next a (λ j. f.product by (m a j)) k x start la lk s
-      (e ∙ w.product_comm (get_or xs (start + k) 0) by ∙ ap (f.product by) read) r
-
   -- of row a with a multiple of row h, which begins at `added`
   pub add_next : (f : Meaning) → Lawful f → (a h by k x y start added : ℕ) → a < rows → h < rows → (h ≡ a → ⊥) → k < c
       → start ≡ a * c + 0 → added ≡ h * c + 0 → x ≡ f.sum (get_or xs (start + k) 0) y → y ≡ f.product (get_or xs (added + k) 0) by
@@ -78,17 +58,129 @@ module _ (rows c : ℕ) (m : ℕ → ℕ → ℕ) (xs : List ℕ) (sized : lengt
       row_next a (λ j. f.sum (m a j) (f.product by (m h j))) k x start la lk s
       (ex ∙ ap₂ f.sum read (ey ∙ w.product_comm (get_or xs (added + k) 0) by ∙ ap (f.product by) other)) r
 
-  swap_more : (a h k x y : ℕ) → k < c → a * c + k < length xs → h * c + k < length xs → x ≡ at c xs a k → y ≡ at c xs h k
-      → SwapTo rows c m (at c xs) a h k → SwapTo rows c m (at c (set (set xs (a * c + k) y) (h * c + k) x)) a h (k + 1)
-  swap_more a h k x y lk la lh ex ey s = search (rules, at_set_here, at_set_row, at_set_column, length-set)
+-- the first n symbols of xs are mapped by t, and the others are as they were
+pub record MapTo (t : ℕ → ℕ) (xs ys : List ℕ) (n : ℕ) : Type 0 where
+  pub done : (k : ℕ) → k < n → get_or ys k 0 ≡ t (get_or xs k 0)
+  pub rest : (k : ℕ) → n ≤ k → get_or ys k 0 ≡ get_or xs k 0
 
-  -- one more column of rows a and h, which begin at `first` and `second`
-  pub swap_next : (a h k first second : ℕ) → a < rows → h < rows → k < c → first ≡ a * c + 0 → second ≡ h * c + 0
-      → SwapTo rows c m (at c xs) a h k
-      → SwapTo rows c m (at c (set (set xs (first + k) (get_or xs (second + k) 0)) (second + k) (get_or xs (first + k) 0))) a h (k + 1)
-  swap_next a h k first second la lh lk ea eh s =
-      let one : a * c + k ≡ first + k = omega arith in
-      let two : h * c + k ≡ second + k = omega arith in
-      subst (λ (p : ℕ). SwapTo rows c m (at c (set (set xs p (get_or xs (second + k) 0)) (second + k) (get_or xs p 0))) a h (k + 1)) one
-      (subst (λ (p : ℕ). SwapTo rows c m (at c (set (set xs (a * c + k) (get_or xs p 0)) p (at c xs a k))) a h (k + 1)) two
-      (swap_more a h k (at c xs a k) (at c xs h k) lk (omega (arith, row_end rows c a la)) (omega (arith, row_end rows c h lh)) refl refl s))
+pub map_next : (t : ℕ → ℕ) (xs ys : List ℕ) (n x : ℕ) → n < length ys → x ≡ t (get_or ys n 0) → MapTo t xs ys n
+    → MapTo t xs (set ys n x) (n + 1)
+map_next t xs ys n x l e m = record {
+  done = λ k h.
+      ⊎_elim
+      (λ (s : k ≡ n).
+      subst (λ (k : ℕ). get_or (set ys n x) k 0 ≡ t (get_or xs k 0)) (sym s)
+      (get_or-set_same ys n x 0 l ∙ e ∙ ap t (m.rest n (omega arith))))
+      (λ (d : k ≡ n → ⊥). get_or-set_other ys n k x 0 d ∙ m.done k (omega arith)) (cases_eq k n);
+  rest = λ k h. get_or-set_other ys n k x 0 (λ s. omega arith) ∙ m.rest k (omega arith);
+}
+
+-- ys in place of row a, whose part of xs is the n symbols from `start` on
+module _ (rows c : ℕ) (xs ys : List ℕ) (a start n : ℕ) (sized : length xs ≡ rows * c) (la : a < rows) (es : start ≡ a * c + 0)
+    (en : n ≡ c) (ly : length ys ≡ length (take n (drop start xs))) where
+  length_part : length ys ≡ n
+  length_part = ly ∙ length-take-le n (drop start xs) (omega (arith, length-drop start xs, row_end rows c a la))
+
+  part_here : (j : ℕ) → j < c → get_or (take n (drop start xs)) j 0 ≡ at c xs a j
+  part_here j l =
+      let same : start + j ≡ a * c + j = omega arith in
+      get_or-take n (drop start xs) j 0 (omega arith) ∙ get_or-drop start xs j 0 ∙ ap (λ (p : ℕ). get_or xs p 0) same
+
+  other_row : (i j : ℕ) → i < rows → j < c → (i ≡ a → ⊥) → (i * c + j < start) ⊎ (start + n ≤ i * c + j)
+  other_row i j li lj d =
+      ⊎_elim (λ (b : i < a). inl (omega (arith, row_end a c i b)))
+      (λ (b : a ≤ i). inr (omega (arith, row_end i c a (omega arith)))) (cases_lt i a)
+
+  pub row_put : (t : ℕ → ℕ) → ((j : ℕ) → j < n → get_or ys j 0 ≡ t (get_or (take n (drop start xs)) j 0))
+      → RowIs rows c (at c xs) (at c (put_mid start n xs ys)) a (λ j. t (at c xs a j))
+  row_put t e = record {
+    here = λ j l.
+        let same : a * c + j ≡ start + j = omega arith in
+        let put : get_or (put_mid start n xs ys) (start + j) 0 ≡ get_or ys j 0 = search (rules, places, row_end rows c a la, length_part) in
+        ap (λ (p : ℕ). get_or (put_mid start n xs ys) p 0) same ∙ put ∙ e j (omega arith) ∙ ap t (part_here j l);
+    others = λ i j li lj d.
+        let room : start + n ≤ length xs = omega (arith, row_end rows c a la) in
+        ⊎_elim
+        (λ (b : i * c + j < start). search (rules, places, length_part))
+        (λ (b : start + n ≤ i * c + j). search (rules, places, length_part)) (other_row i j li lj d);
+  }
+
+-- xs in two parts, u and v: rows a and h, the k symbols of u from `first` on and the first l of v, are exchanged
+module _ (rows c : ℕ) (xs u v ys zs : List ℕ) (a h first second k l : ℕ) (sized : length xs ≡ rows * c) (lh : h < rows) (la : a < h)
+    (ea : first ≡ a * c + 0) (eh : second ≡ h * c + 0) (ek : k ≡ c) (el : l ≡ c) (parts : xs ≡ u ++ v) (lu : length u ≡ second)
+    (ey : ys ≡ take l v) (ez : zs ≡ take k (drop first u)) where
+  above : first + k ≤ second
+  above = omega (arith, row_end h c a la)
+
+  room : l ≤ length v
+  room = omega (arith, row_end rows c h lh, ap length parts, length-append u v)
+
+  length_ys : length ys ≡ l
+  length_ys = ap length ey ∙ length-take-le l v room
+
+  length_zs : length zs ≡ k
+  length_zs = ap length ez ∙ length-take-le k (drop first u) (omega (arith, length-drop first u, above))
+
+  abbrev front : List ℕ
+  front = put_mid first k u ys
+
+  abbrev back : List ℕ
+  back = put_mid 0 l v zs
+
+  length_front : length front ≡ second
+  length_front = search (rules, places, above, length_ys, ek, el)
+
+  in_back : (x y : List ℕ) → length x ≡ second → (i : ℕ) → get_or (x ++ y) (second + i) 0 ≡ get_or y i 0
+  in_back x y e i = ap (λ (p : ℕ). get_or (x ++ y) (p + i) 0) (sym e) ∙ get_or-append-add x y i 0
+
+  in_front : (x y : List ℕ) → length x ≡ second → (i : ℕ) → i < second → get_or (x ++ y) i 0 ≡ get_or x i 0
+  in_front x y e i b = get_or-append x y 0 i (omega arith)
+
+  old_front : (i : ℕ) → i < second → get_or u i 0 ≡ get_or xs i 0
+  old_front i b = sym (ap (λ (x : List ℕ). get_or x i 0) parts ∙ in_front u v lu i b)
+
+  old_back : (i : ℕ) → get_or v i 0 ≡ get_or xs (second + i) 0
+  old_back i = sym (ap (λ (x : List ℕ). get_or x (second + i) 0) parts ∙ in_back u v lu i)
+
+  new_first : (j : ℕ) → j < c → get_or (front ++ back) (first + j) 0 ≡ get_or xs (second + j) 0
+  new_first j lj =
+      in_front front back length_front (first + j) (omega (arith, above))
+      ∙ search (rules, places, above, length_ys) ∙ ap (λ (x : List ℕ). get_or x j 0) ey ∙ search (rules, places) ∙ old_back j
+
+  new_second : (j : ℕ) → j < c → get_or (front ++ back) (second + j) 0 ≡ get_or xs (first + j) 0
+  new_second j lj =
+      in_back front back length_front j ∙ search (rules, places, length_zs) ∙ ap (λ (x : List ℕ). get_or x j 0) ez
+      ∙ search (rules, places, above) ∙ old_front (first + j) (omega (arith, above))
+
+  kept_front : (i : ℕ) → i < second → (i < first) ⊎ (first + k ≤ i) → get_or (front ++ back) i 0 ≡ get_or xs i 0
+  kept_front i b o =
+      in_front front back length_front i b
+      ∙ ⊎_elim (λ (s : i < first). search (rules, places, above, length_ys))
+      (λ (s : first + k ≤ i). search (rules, places, above, length_ys, ek, el)) o ∙ old_front i b
+
+  kept_back : (i : ℕ) → l ≤ i → get_or (front ++ back) (second + i) 0 ≡ get_or xs (second + i) 0
+  kept_back i o = in_back front back length_front i ∙ search (rules, places, length_zs, ek, el) ∙ old_back i
+
+  -- row i stands before row h where i is less, and after it where i is more
+  row_apart : (i j b start m : ℕ) → start ≡ b * c + 0 → m ≡ c → j < c → (i ≡ b → ⊥) → (i * c + j < start) ⊎ (start + m ≤ i * c + j)
+  row_apart i j b start m es em lj d =
+      ⊎_elim (λ (s : i < b). inl (omega (arith, row_end b c i s)))
+      (λ (s : b ≤ i). inr (omega (arith, row_end i c b (omega arith)))) (cases_lt i b)
+
+  pub parts_swapped : Swapped rows c (at c xs) (at c (front ++ back)) a h
+  parts_swapped = record {
+    first = λ j lj.
+        let p : a * c + j ≡ first + j = omega arith in
+        let q : second + j ≡ h * c + j = omega arith in
+        ap (λ (i : ℕ). get_or (front ++ back) i 0) p ∙ new_first j lj ∙ ap (λ (i : ℕ). get_or xs i 0) q;
+    second = λ j lj.
+        let p : h * c + j ≡ second + j = omega arith in
+        let q : first + j ≡ a * c + j = omega arith in
+        ap (λ (i : ℕ). get_or (front ++ back) i 0) p ∙ new_second j lj ∙ ap (λ (i : ℕ). get_or xs i 0) q;
+    others = λ i j li lj da dh.
+        ⊎_elim (λ (s : i * c + j < second). kept_front (i * c + j) s (row_apart i j a first k ea ek lj da))
+        (λ (s : second + l ≤ i * c + j).
+        let p : second + (i * c + j - second) ≡ i * c + j = omega arith in
+        subst (λ (x : ℕ). get_or (front ++ back) x 0 ≡ get_or xs x 0) p (kept_back (i * c + j - second) (omega arith)))
+        (row_apart i j h second l eh el lj dh);
+  }

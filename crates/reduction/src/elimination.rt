@@ -1,67 +1,48 @@
 // The reduction of a block to reduced row echelon form, column by column.
-ghost use Rattle.std.specs.Prelude.{◌≡◌, ℕ, ◌*◌, ◌<◌, ◌≤◌, true, false, length, slice_index};
+ghost use Rattle.std.specs.Prelude.{◌≡◌, ℕ, ◌*◌, ◌<◌, ◌≤◌};
 ghost use Rattle.algebra.specs.Matrices.{Reduced};
-ghost use Rattle.reduction.specs.Blocks.{at, Symbols, Outcome};
+ghost use Rattle.reduction.specs.Blocks.{Symbols, Outcome};
 ghost use Rattle.reduction.specs.Steps.{Stepped};
 
-use super::pivots::{clear_column, find_pivot, scale_pivot};
-use super::rows::swap_rows;
-use field::{Field, Symbol};
+use super::rows::Matrix;
+use field::{Field, Symbol, are_symbols};
 
-// One column's step: `top` rows have their leading entries in the columns before it. The answer is the new number of them.
-fn step<F: Field>(
-    f: &F,
-    block: &mut [Symbol],
-    rows: usize,
-    columns: usize,
-    top: usize,
-    column: usize,
-) -> usize
-    requires sized { length block.old ≡ rows * columns }
-    requires within { top ≤ rows }
-    requires inside { column < columns }
-    requires symbols { Symbols (F.Field.meaning f.now).q rows columns (at columns block.old) }
-    ensures { Stepped (F.Field.meaning f.now) rows columns column
-        (at columns block.old) (at columns block.new) top result }
-{
-    match find_pivot(block, rows, columns, top, column) {
-        Some(i) => {
-            swap_rows(block, rows, columns, top, i);
-            scale_pivot(f, block, rows, columns, top, column);
-            clear_column(f, block, rows, columns, top, column);
-            top + 1
-        }
-        None => top,
-    }
-}
+impl Matrix<'_> {
+    ghost use Rattle.reduction.specs.Rows.{entries, IsSameMatrix};
 
-// Reduces a block of symbols, and answers its rank.
-fn eliminate<F: Field>(f: &F, block: &mut [Symbol], rows: usize, columns: usize) -> usize
-    requires sized { length block.old ≡ rows * columns }
-    requires symbols { Symbols (F.Field.meaning f.now).q rows columns (at columns block.old) }
-    ensures { Reduced (F.Field.meaning f.now) rows columns
-        (at columns block.old) (at columns block.new) result }
-{
-    let mut top = 0;
-    for column in 0..columns {
-        top = step(f, block, rows, columns, top, column);
-    }
-    top
-}
-
-// Whether every number is below `order`.
-fn are_below(numbers: &[u16], order: u16) -> bool
-    ensures { elim result [
-      | true ↦ ((k : ℕ) → k < length numbers.now → slice_index numbers.now k < order)
-      | false ↦ (((k : ℕ) → k < length numbers.now → slice_index numbers.now k < order) → ⊥)
-    ] }
-{
-    for x in numbers {
-        if *x >= order {
-            return false;
+    // One column's step: `top` rows have their leading entries in the columns before it. The answer is the new number of them.
+    fn step<F: Field>(&mut self, f: &F, top: usize, column: usize) -> usize
+        requires within { top ≤ self.old.rows }
+        requires inside { column < self.old.columns }
+        requires symbols { Symbols (F.Field.meaning f.now).q self.old.rows self.old.columns (entries self.old) }
+        ensures same { IsSameMatrix self.old self.new }
+        ensures stepped { Stepped (F.Field.meaning f.now) self.old.rows self.old.columns column
+            (entries self.old) (entries self.new) top result }
+    {
+        match self.find_pivot(top, column) {
+            Some(i) => {
+                self.swap_rows(top, i);
+                self.scale_pivot(f, top, column);
+                self.clear_column(f, top, column);
+                top + 1
+            }
+            None => top,
         }
     }
-    true
+
+    // Reduces the matrix, and answers its rank.
+    fn eliminate<F: Field>(&mut self, f: &F) -> usize
+        requires { Symbols (F.Field.meaning f.now).q self.old.rows self.old.columns (entries self.old) }
+        ensures same { IsSameMatrix self.old self.new }
+        ensures reduced { Reduced (F.Field.meaning f.now) self.old.rows self.old.columns
+            (entries self.old) (entries self.new) result }
+    {
+        let mut top = 0;
+        for column in 0..self.columns {
+            top = self.step(f, top, column);
+        }
+        top
+    }
 }
 
 // Reduces a block to reduced row echelon form and answers its rank, which is the number of leading entries. Where the length
@@ -69,8 +50,13 @@ fn are_below(numbers: &[u16], order: u16) -> bool
 pub fn reduce<F: Field>(f: &F, block: &mut [Symbol], rows: usize, columns: usize) -> Option<usize>
     ensures { Outcome (F.Field.meaning f.now) rows columns block.old block.new result }
 {
-    if rows.checked_mul(columns) != Some(block.len()) || !are_below(block, f.order()) {
+    if rows.checked_mul(columns) != Some(block.len()) || !are_symbols(block, f.order()) {
         return None;
     }
-    Some(eliminate(f, block, rows, columns))
+    let mut matrix = Matrix {
+        symbols: block,
+        rows,
+        columns,
+    };
+    Some(matrix.eliminate(f))
 }

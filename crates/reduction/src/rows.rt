@@ -1,79 +1,89 @@
-// Operations on the rows of a block: `rows` times `columns` symbols, row by row.
-ghost use Rattle.std.specs.Prelude.{◌≡◌, ◌+◌, ◌-◌, ◌*◌, ◌^◌, ◌<◌, ◌≤◌, length, ◌≢◌};
+// A matrix of symbols in a list that the caller lends, row by row, and operations on its rows.
+ghost use Rattle.std.specs.Prelude.{◌≡◌, ◌+◌, ◌-◌, ◌*◌, ◌<◌, ◌≤◌, length, ◌≢◌};
 ghost use Rattle.algebra.specs.Matrices.{Swapped, RowIs};
-ghost use Rattle.reduction.specs.Blocks.{at};
 
 use field::{Field, Symbol};
 
-// The place of row `i`, column `j`, with the rest of the row after it. `j` may be the number of columns, where the row ends.
-pub(crate) fn place(rows: usize, columns: usize, i: usize, j: usize) -> usize
-    requires fits { rows * columns < 2 ^ 64 }
-    requires row { i < rows }
-    requires column { j ≤ columns }
-    ensures is { result ≡ i * columns + j }
-    ensures within { result + (columns - j) ≤ rows * columns }
-{
-    let row = i * columns;
-    row + j
+// The symbols in the caller's list, as many as rows times columns.
+#[derive(Drop)]
+pub(crate) struct Matrix<'a> {
+    pub(crate) symbols: &'a mut [Symbol],
+    pub(crate) rows: usize,
+    pub(crate) columns: usize,
+    ghost sized: { length symbols.now ≡ rows * columns },
 }
 
-// Exchanges rows `a` and `h`.
-pub(crate) fn swap_rows(block: &mut [Symbol], rows: usize, columns: usize, a: usize, h: usize)
-    requires sized { length block.old ≡ rows * columns }
-    requires first { a < rows }
-    requires second { h < rows }
-    ensures { Swapped rows columns (at columns block.old) (at columns block.new) a h }
-{
-    let first = place(rows, columns, a, 0);
-    let second = place(rows, columns, h, 0);
-    for j in 0..columns {
-        let kept = block[first + j];
-        block[first + j] = block[second + j];
-        block[second + j] = kept;
+impl Matrix<'_> {
+    ghost use Rattle.reduction.specs.Rows.{entries, IsSameMatrix};
+
+    // The place of row `i`, column `j`, with the rest of the row after it. `j` may be the number of columns, where the row ends.
+    fn place(&self, i: usize, j: usize) -> usize
+        requires row { i < self.now.rows }
+        requires column { j ≤ self.now.columns }
+        ensures is { result ≡ i * self.now.columns + j }
+        ensures within { result + (self.now.columns - j) ≤ length self.now.symbols.now }
+    {
+        i * self.columns + j
     }
-}
 
-// Multiplies row `a` by a symbol.
-pub(crate) fn scale_row<F: Field>(
-    f: &F,
-    block: &mut [Symbol],
-    rows: usize,
-    columns: usize,
-    a: usize,
-    by: Symbol,
-)
-    requires sized { length block.old ≡ rows * columns }
-    requires row { a < rows }
-    ensures { RowIs rows columns (at columns block.old) (at columns block.new) a
-        (λ j. (F.Field.meaning f.now).product by (at columns block.old a j)) }
-{
-    let start = place(rows, columns, a, 0);
-    for j in 0..columns {
-        block[start + j] = f.product(block[start + j], by);
+    // Row `i`, column `j`.
+    pub(crate) fn entry(&self, i: usize, j: usize) -> Symbol
+        requires row { i < self.now.rows }
+        requires column { j < self.now.columns }
+        ensures { result ≡ entries self.now i j }
+    {
+        self.symbols[self.place(i, j)]
     }
-}
 
-// Adds a multiple of row `h` to row `a`.
-pub(crate) fn add_row<F: Field>(
-    f: &F,
-    block: &mut [Symbol],
-    rows: usize,
-    columns: usize,
-    a: usize,
-    h: usize,
-    by: Symbol,
-)
-    requires sized { length block.old ≡ rows * columns }
-    requires row { a < rows }
-    requires added { h < rows }
-    requires apart { h ≢ a }
-    ensures { RowIs rows columns (at columns block.old) (at columns block.new) a
-        (λ j. (F.Field.meaning f.now).sum (at columns block.old a j)
-        ((F.Field.meaning f.now).product by (at columns block.old h j))) }
-{
-    let start = place(rows, columns, a, 0);
-    let added = place(rows, columns, h, 0);
-    for j in 0..columns {
-        block[start + j] = f.sum(block[start + j], f.product(block[added + j], by));
+    // Exchanges row `a` and row `h`, which does not stand above it.
+    pub(crate) fn swap_rows(&mut self, a: usize, h: usize)
+        requires order { a ≤ h }
+        requires within { h < self.old.rows }
+        ensures same { IsSameMatrix self.old self.new }
+        ensures swapped { Swapped self.old.rows self.old.columns (entries self.old) (entries self.new) a h }
+    {
+        if a == h {
+            return;
+        }
+        let columns = self.columns;
+        let first = self.place(a, 0);
+        let second = self.place(h, 0);
+        let symbols = &mut *self.symbols;
+        let (above, below) = symbols.split_at_mut(second);
+        above[first..first + columns].swap_with_slice(&mut below[..columns]);
+    }
+
+    // Multiplies row `a` by a symbol.
+    pub(crate) fn scale_row<F: Field>(&mut self, f: &F, a: usize, by: Symbol)
+        requires row { a < self.old.rows }
+        ensures same { IsSameMatrix self.old self.new }
+        ensures scaled { RowIs self.old.rows self.old.columns (entries self.old) (entries self.new) a
+            (λ j. (F.Field.meaning f.now).product by (entries self.old a j)) }
+    {
+        let start = self.place(a, 0);
+        let row = &mut self.symbols[start..start + self.columns];
+        for x in row.iter_mut() {
+            *x = f.product(*x, by);
+        }
+    }
+
+    // Adds a multiple of row `h` to row `a`.
+    pub(crate) fn add_row<F: Field>(&mut self, f: &F, a: usize, h: usize, by: Symbol)
+        requires row { a < self.old.rows }
+        requires added { h < self.old.rows }
+        requires apart { h ≢ a }
+        ensures same { IsSameMatrix self.old self.new }
+        ensures added { RowIs self.old.rows self.old.columns (entries self.old) (entries self.new) a
+            (λ j. (F.Field.meaning f.now).sum (entries self.old a j)
+            ((F.Field.meaning f.now).product by (entries self.old h j))) }
+    {
+        let start = self.place(a, 0);
+        let added = self.place(h, 0);
+        let columns = self.columns;
+        let symbols = &mut *self.symbols;
+        // By index: both rows stand in one list, and a split between them differs with which comes first.
+        for j in 0..columns {
+            symbols[start + j] = f.sum(symbols[start + j], f.product(symbols[added + j], by));
+        }
     }
 }

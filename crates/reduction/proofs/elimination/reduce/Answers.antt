@@ -1,17 +1,16 @@
-use Rattle.std.proofs.Common.{◌≡◌, ℕ, ◌*◌, ◌<◌, length, get_or, subst, rules}
-use Rattle.reduction.proofs.Places.{block_entries}
+use Rattle.std.proofs.Common.{◌≡◌, sym, refl, arith}
+use Rattle.field.proofs.SymbolTests.{symbols_fail}
+use Rattle.reduction.specs.Blocks.{Block}
 use Rattle.reduction.proofs.elimination.reduce.Goals as goal
+use Rattle.reduction.proofs.elimination.reduce.Goals.{then-ne-via-then-ne, then-ne-via-else-ne+then-not-are_symbols}
 
-pub eliminate-requires : goal.eliminate-requires
-eliminate-requires g c =
-    let xs = c.args.block.now in
-    let sized : length xs ≡ c.args.rows * c.args.columns = search rules in
-    record {
-      sized = sized;
-      symbols =
-          block_entries _ c.args.rows c.args.columns xs
-          (record {
-            sized = sized;
-            symbols = λ k l. subst (λ (q : ℕ). get_or xs k 0 < q) c.order.ensures (c.if-not-are_below.ensures k l);
-          });
-    }
+pub returns-then-ne : goal.returns-then-ne
+returns-then-ne g c =
+    let none : Block (g.F.Field.meaning c.args.f.now).q c.args.rows c.args.columns c.args.block.now → ⊥ =
+    elim c.then-ne.branch [
+      | then-ne-via-then-ne w ↦ λ b. grind arith
+      | then-ne-via-else-ne+then-not-are_symbols w ↦ λ b.
+          let x = symbols_fail w.order.result c.args.block.now (sym w.if-not-are_symbols.ensures) in
+          omega (arith, x.1, x.2, b.symbols x.0 x.1, w.order.ensures)
+    ] in
+    (none, refl)
