@@ -1,6 +1,4 @@
 use Rattle.std.proofs.Common.{◌≡◌, ℕ, ◌+◌, ◌*◌, ◌<◌, length, get_or, take, sym, refl, ap, ◌∙◌, subst, arith}
-use Rattle.std.proofs.lemmas.Nat.{mul-le}
-use Rattle.field.specs.Sums.{total}
 use Rattle.array.specs.Cells.{normal, terms_of}
 use Rattle.array.specs.Buffers.{blank, cell_at}
 use Rattle.array.specs.declared.plain.CellRow.{CellRow}
@@ -11,22 +9,11 @@ use Rattle.code.proofs.Rotations.{part_at}
 use Rattle.code.proofs.Sums.{row_more}
 use Rattle.code.proofs.receiver.row_syndromes.Goals as goal
 
-pub part-row_cells-requires : goal.part-row_cells-requires
-part-row_cells-requires g c = omega (arith, mul-le (c.args.row + 1) c.columns.result 8 64 (omega arith) (omega arith))
-
-pub part-requires : goal.part-requires
-part-requires g c =
-    let s = c.args.shape.now in
-    omega (arith, mul-le (c.loop-j.j + 1) c.size.result s.columns s.size (omega arith) (omega arith))
-
-pub add_cell-requires : goal.add_cell-requires
-add_cell-requires g c =
+pub add_cell-requires-clause-symbols : goal.add_cell-requires-clause-symbols
+add_cell-requires-clause-symbols g c = λ s h.
     let f = g.F.Field.meaning c.args.f.now in
-    record {
-      sized = omega arith;
-      some = omega arith;
-      symbols = λ s h. subst (λ (x : ℕ). x < f.q) (sym (c.loop-j.invariant s (omega arith))) (total_below f (g.met.F.Field.lawful c.args.f.now) c.loop-j.j _);
-    }
+    let total_so_far = c.loop-j.invariant s (omega arith) in
+    subst (λ (x : ℕ). x < f.q) (sym total_so_far) (total_below f (g.met.F.Field.lawful c.args.f.now) c.loop-j.j _)
 
 pub loop-j-preserved : goal.loop-j-preserved
 loop-j-preserved g c = λ s h.
@@ -49,11 +36,3 @@ loop-j-preserved g c = λ s h.
     ∙ ap (λ (m : ℕ). get_or c.args.word.now (c.loop-j.j * m + l) 0) c.size.ensures) refl
     (c.add_cell.ensures s (omega arith)
     ∙ ap (λ (n : ℕ). f.sum (get_or c.loop-j.sums s 0) (cell_sum f n c.terms.result.now (λ l. get_or column l 0) s)) len)
-
-pub returns : goal.returns
-returns g c = λ s h.
-    let f = g.F.Field.meaning c.args.f.now in
-    let e = c.args.shape.now.size in
-    c.loop-j.invariant s h
-    ∙ ap (λ (n : ℕ). total f n (λ j. cell_sum f e (terms_of (cell_at c.args.shape.now.columns c.args.cells.now c.args.row j)) (λ k. get_or c.args.word.now (j * e + k) 0) s))
-    (omega (arith, c.loop-j-test.false, c.loop-j.auto.j-end))
