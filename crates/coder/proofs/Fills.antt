@@ -1,15 +1,14 @@
 -- A block's spectrum, filled column by column.
-use Rattle.std.proofs.Common.{◌≡◌, ℕ, suc, ◌+◌, ◌<◌, ◌≤◌, Bool, true, false, cond, List, length, get_or, set, sym, ap, ◌∙◌, ⊎_elim, add-one, arith, below_more}
-use Rattle.std.proofs.lemmas.List.{get_or-set_same, get_or-set_other}
-use Rattle.std.proofs.lemmas.Bool.{eq-eqb, ne_eqb, cases_Bool, cond-true, cond-false}
+use Rattle.std.proofs.Common.{◌≡◌, ℕ, zero, suc, ◌+◌, ◌<◌, ◌≤◌, true, false, cond, List, [], ◌∷◌, length, get_or, set, take, fold, zip, sym, refl, ap, ap₂, ◌∙◌, ⊎_elim, add-one, arith, below_more}
+use Rattle.std.proofs.lemmas.List.{get_or-set_same, get_or-set_other, take_all}
+use Rattle.std.proofs.lemmas.List.Sums.{fold_more}
+use Rattle.std.proofs.lemmas.Bool.{cases_Bool, cond-true, cond-false}
 use Rattle.field.specs.Meaning.{Meaning, Lawful}
 use Rattle.field.specs.Sums.{total}
-use Rattle.algebra.specs.Matrices.{lead_row, free, count}
+use Rattle.algebra.specs.Matrices.{lead_row, free}
 use Rattle.algebra.specs.Solutions.{free_part, solved}
 use Rattle.algebra.proofs.Powers.{product_zero}
 use Rattle.algebra.proofs.Sums.{total_same}
-use Rattle.algebra.proofs.Counts.{count_true, count_false}
-use Rattle.algebra.proofs.Leads.{lead_row_cases}
 
 -- one place more of a list that a loop fills
 pub stored : (u : ℕ → ℕ) (xs : List ℕ) (i x : ℕ) → i < length xs → ((h : ℕ) → h < i → get_or xs h 0 ≡ u h) → x ≡ u i
@@ -17,23 +16,6 @@ pub stored : (u : ℕ → ℕ) (xs : List ℕ) (i x : ℕ) → i < length xs →
 stored u xs i x l a e =
     below_more (λ (h : ℕ). get_or (set xs i x) h 0 ≡ u h) i
     (λ h g. get_or-set_other xs i h x 0 (λ s. omega arith) ∙ a h g) (get_or-set_same xs i x 0 l ∙ e)
-
-module _ (rows : ℕ) (m : ℕ → ℕ → ℕ) (j r : ℕ) (er : r ≡ lead_row rows m j) where
-  pub is_free : r ≡ rows → free rows m j ≡ true
-  is_free e = eq-eqb (lead_row rows m j) rows (sym er ∙ e)
-
-  pub is_taken : (r ≡ rows → ⊥) → free rows m j ≡ false
-  is_taken ne = ne_eqb (lead_row rows m j) rows (λ e. ne (er ∙ e))
-
--- one message symbol more where the column is free
-pub spread_free_lem : (p : ℕ → Bool) (first j k k' : ℕ) → p j ≡ true → k ≡ first + count j p → k' ≡ k + 1 → k' ≡ first + count (j + 1) p
-spread_free_lem p first j k k' t e e' =
-    let c : count (suc j) p ≡ suc (count j p) = count_true p j t in
-    e' ∙ ap (λ (n : ℕ). n + 1) e ∙ omega arith ∙ ap (λ (n : ℕ). first + count n p) (sym (add-one j))
-
-pub spread_taken : (p : ℕ → Bool) (first j k k' : ℕ) → p j ≡ false → k ≡ first + count j p → k' ≡ k → k' ≡ first + count (j + 1) p
-spread_taken p first j k k' t e e' =
-    e' ∙ e ∙ ap (λ (n : ℕ). first + n) (sym (count_false p j t)) ∙ ap (λ (n : ℕ). first + count n p) (sym (add-one j))
 
 -- a vector that is 0 in the leading columns, times a row, is the row's part over the free columns
 module _ (f : Meaning) (w : Lawful f) (rows c : ℕ) (m : ℕ → ℕ → ℕ) (v u : ℕ → ℕ) (eu : (j : ℕ) → j < c → u j ≡ cond (free rows m j) (v j) 0) where
@@ -59,5 +41,32 @@ module _ (f : Meaning) (w : Lawful f) (rows c : ℕ) (m : ℕ → ℕ → ℕ) (
       (λ h. cond (free rows m h) (f.product (m (lead_row rows m j) h) (v h)) 0) (λ h l. part (lead_row rows m j) h l)
       ∙ sym (cond-false (free rows m j) (v j) (free_part f rows c m (lead_row rows m j) v) t)
 
-pub lead_row_le : (rows : ℕ) (m : ℕ → ℕ → ℕ) (j : ℕ) → lead_row rows m j ≤ rows
-lead_row_le rows m j = ⊎_elim (λ h. omega (arith, h.0)) (λ (e : lead_row rows m j ≡ rows). omega arith) (lead_row_cases m j rows)
+zip_long : (xs ys : List ℕ) → length xs ≡ length ys → length (zip xs ys) ≡ length xs
+zip_long [] ys e = refl
+zip_long (x ∷ xs) [] e = absurd (omega (arith, e))
+zip_long (x ∷ xs) (y ∷ ys) e = ap suc (zip_long xs ys (omega (arith, e)))
+
+zip_at : (xs ys : List ℕ) (h : ℕ) → length xs ≡ length ys → h < length xs → get_or (zip xs ys) h (0, 0) ≡ (get_or xs h 0, get_or ys h 0)
+zip_at [] ys h e l = absurd (omega (arith, l))
+zip_at (x ∷ xs) [] h e l = absurd (omega (arith, e))
+zip_at (x ∷ xs) (y ∷ ys) zero e l = refl
+zip_at (x ∷ xs) (y ∷ ys) (suc h) e l = zip_at xs ys h (omega (arith, e)) (omega (arith, l))
+
+-- a fold over two lists side by side is a sum of products
+module _ (f : Meaning) (xs ys : List ℕ) (long : length xs ≡ length ys) where
+  abbrev pub term : ℕ → ℕ
+  term h = f.product (get_or xs h 0) (get_or ys h 0)
+
+  abbrev pub step : ℕ → ℕ × ℕ → ℕ
+  step a p = f.sum a (f.product p.0 p.1)
+
+  fold_to : (n : ℕ) → n ≤ length xs → fold step 0 (take n (zip xs ys)) ≡ total f n term
+  fold_to zero h = refl
+  fold_to (suc n) h =
+      ap (λ (k : ℕ). fold step 0 (take k (zip xs ys))) (sym (add-one n))
+      ∙ fold_more step 0 (zip xs ys) n (0, 0) (omega (arith, zip_long xs ys long))
+      ∙ ap₂ step (fold_to n (omega arith)) (zip_at xs ys n long (omega arith))
+
+  pub fold_total : fold step 0 (zip xs ys) ≡ total f (length xs) term
+  fold_total =
+      ap (fold step 0) (sym (take_all (length xs) (zip xs ys) (omega (arith, zip_long xs ys long)))) ∙ fold_to (length xs) (omega arith)

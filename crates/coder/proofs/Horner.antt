@@ -35,16 +35,6 @@ module _ (f : Meaning) (w : Lawful f) (x : ℕ) where
       ∙ sym (value_first (n - i) (λ t. y (i - 1 + t)))
       ∙ ap (λ (m : ℕ). value f m (λ t. y (i - 1 + t)) x) (sym k)
 
-  pub horner_none : (n : ℕ) (y : ℕ → ℕ) → 0 ≡ value f (n - n) y x
-  horner_none n y = let e : n - n ≡ 0 = omega arith in ap (λ (m : ℕ). value f m y x) (sym e)
-
-  pub horner_all : (n i : ℕ) (y : ℕ → ℕ) (v : ℕ) → i ≤ 0 → v ≡ value f (n - i) (λ t. y (i + t)) x → v ≡ value f n y x
-  horner_all n i y v h e =
-      let k : n - i ≡ n = omega arith in
-      e ∙ ap (λ (m : ℕ). value f m (λ t. y (i + t)) x) k
-      ∙ total_same f w n (λ t. f.product (y (i + t)) (power f x t)) (λ t. f.product (y t) (power f x t))
-      (λ t g. ap (λ (m : ℕ). f.product (y m) (power f x t)) (omega arith))
-
 -- the values at the powers of the root are the inverse transform, and at the powers of its inverse the spectrum
 pub value_power : (f : Meaning) → Lawful f → (n a l : ℕ) (y : ℕ → ℕ) → value f n y (power f a l) ≡ total f n (λ t. f.product (y t) (power f a (l * t)))
 value_power f w n a l y =

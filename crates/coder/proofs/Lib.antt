@@ -1,6 +1,7 @@
 pub mod Horner
 pub mod Writes
 pub mod Found
+pub mod Alike
 pub mod Fills
 pub mod Spectra
 pub mod Passing

@@ -22,7 +22,6 @@ use Rattle.code.specs.Checks.{syndrome, cell_sum, PassesAll}
 use Rattle.coder.specs.Columns.{coefficient}
 use Rattle.coder.specs.Encoding.{spread, encoded}
 use Rattle.coder.specs.Forms.{frees}
-use Rattle.coder.proofs.Writes.{place_within}
 
 -- the syndrome by the terms of the cells is the syndrome by the generators of the circulants
 pub syndrome_by_terms : (f : Meaning) → Lawful f → (e columns : ℕ) (cells : List CellRow) (word : List ℕ) (i s : ℕ) → 0 < e
@@ -72,14 +71,13 @@ module _ (f : Meaning) (w : Lawful f) (two : CharacteristicTwo f) (rows columns 
       ∙ (passing_is_null_lem f w two e some divides rows columns (circulant f e columns cells) (λ j l. get_or word (j * e + l) 0)).1 null_at i s h g
 
 -- the inverse transform of a spectrum that stands in a buffer
-pub encoded_from : (f : Meaning) → Lawful f → (rows columns e : ℕ) (blocks message xs ys : List ℕ)
-    → ((k : ℕ) → k < e * columns → get_or xs k 0 ≡ get_or ys k 0)
-    → ((t j : ℕ) → t < e → j < columns → coefficient columns ys j t ≡ spread f rows columns blocks message t j)
+pub encoded_from : (f : Meaning) → Lawful f → (rows columns e : ℕ) (blocks message xs : List ℕ)
+    → ((t j : ℕ) → t < e → j < columns → coefficient columns xs j t ≡ spread f rows columns blocks message t j)
     → (j l : ℕ) → j < columns → synthesis f e (coefficient columns xs j) l ≡ encoded f e rows columns blocks message j l
-encoded_from f w rows columns e blocks message xs ys same is j l h =
+encoded_from f w rows columns e blocks message xs is j l h =
     total_same f w e (λ t. f.product (coefficient columns xs j t) (power f (root f e) (l * t)))
     (λ t. f.product (spread f rows columns blocks message t j) (power f (root f e) (l * t)))
-    (λ t g. ap (λ (x : ℕ). f.product x (power f (root f e) (l * t))) (same (t * columns + j) (place_within e columns t j g h) ∙ is t j g h))
+    (λ t g. ap (λ (x : ℕ). f.product x (power f (root f e) (l * t))) (is t j g h))
 
 pub all_symbols : (f : Meaning) → Lawful f → (xs : List ℕ) → ((k : ℕ) → k < length xs → get_or xs k 0 < f.q) → (k : ℕ) → get_or xs k 0 < f.q
 all_symbols f w xs h k =

@@ -1,14 +1,12 @@
 -- Message symbols read from the free columns, one after the other.
-use Rattle.std.proofs.Common.{◌≡◌, ℕ, suc, ◌+◌, ◌-◌, ◌*◌, ◌<◌, ◌≤◌, Bool, true, false, List, [], ◌∷◌, ◌++◌, length, get_or, take, drop, set, sym, ap, ◌∙◌, subst, ap₂, add-one, arith}
+use Rattle.std.proofs.Common.{◌≡◌, ℕ, suc, ◌+◌, ◌-◌, ◌<◌, ◌≤◌, Bool, true, false, List, [], ◌∷◌, ◌++◌, length, get_or, take, drop, set, sym, ap, ◌∙◌, ap₂, add-one, arith}
 use borrow.Rule.Slice.PartMut.{put_mid, post_of}
 use Rattle.std.proofs.lemmas.List.{append_assoc, append-nil, set_at, take_at, drop_at, drop-drop, drop_more, drop_all, length-drop}
 use Rattle.std.proofs.lemmas.Bool.{cond-true, cond-false}
-use Rattle.algebra.specs.Matrices.{lead_row, free, count}
+use Rattle.algebra.specs.Matrices.{count}
 use Rattle.algebra.specs.Solutions.{gathered, offset, collected}
 use Rattle.algebra.proofs.Counts.{count_true, count_false}
-use Rattle.algebra.proofs.Gathers.{count_below, gathered_length, gathered_same, offset_grows, collected_length}
-use Rattle.coder.specs.Forms.{matrix, frees}
-use Rattle.coder.proofs.Fills.{is_free}
+use Rattle.algebra.proofs.Gathers.{count_below, gathered_length, offset_grows, collected_length}
 
 -- the front of a buffer holds the symbols of the free columns below j, and the rest is as it was
 abbrev pub ReadTo : (ℕ → Bool) → (ℕ → ℕ) → List ℕ → List ℕ → ℕ → ℕ → Type 0
@@ -41,33 +39,12 @@ module _ (p : ℕ → Bool) (v : ℕ → ℕ) (before after : List ℕ) (j k : �
       )
 
 -- there is room for the symbol of the next free column
-pub read_room : (rows n j r k room : ℕ) (m : ℕ → ℕ → ℕ) → r ≡ lead_row rows m j → r ≡ rows → j < n → k ≡ count j (free rows m)
-    → count n (free rows m) ≤ room → k < room
-read_room rows n j r k room m er e l ek s = omega (arith, count_below (free rows m) j n l (is_free rows m j r er e))
+pub read_room : (n j k room : ℕ) (p : ℕ → Bool) → j < n → p j ≡ true → k ≡ count j p → count n p ≤ room → k < room
+read_room n j k room p l t ek s = omega (arith, count_below p j n l t)
 
 -- the front of a buffer holds what was read from the blocks before t, and the rest is as it was
 abbrev pub CollectedTo : ℕ → (ℕ → ℕ → Bool) → (ℕ → ℕ → ℕ) → List ℕ → List ℕ → ℕ → ℕ → Type 0
 CollectedTo c p v before after t first = (first ≡ offset c p t) × (after ≡ collected c p v t ++ drop (offset c p t) before)
-
--- what `read_free` leaves, in one block
-abbrev pub BlockRead : ℕ → ℕ → ℕ → List ℕ → List ℕ → List ℕ → List ℕ → ℕ → Type 0
-BlockRead rows n base blocks sums part after k =
-    (k ≡ count n (free rows (matrix n blocks base)))
-    × (after ≡ gathered n (free rows (matrix n blocks base)) (λ j. get_or sums j 0) ++ drop (count n (free rows (matrix n blocks base))) part)
-
-pub block_read : (rows columns t r n base k : ℕ) (blocks sums part after : List ℕ) (v : ℕ → ℕ) → r ≡ rows → n ≡ columns → base ≡ t * (rows * columns)
-    → ((j : ℕ) → j < columns → get_or sums j 0 ≡ v j) → BlockRead r n base blocks sums part after k
-    → (k ≡ count columns (frees rows columns blocks t)) × (after ≡ gathered columns (frees rows columns blocks t) v ++ drop k part)
-block_read rows columns t r n base k blocks sums part after v er en eb ev h =
-    let p : ℕ → Bool = frees rows columns blocks t in
-    let a : BlockRead rows columns (t * (rows * columns)) blocks sums part after k =
-    subst (λ (x : ℕ). BlockRead rows columns x blocks sums part after k) eb
-    (subst (λ (x : ℕ). BlockRead rows x base blocks sums part after k) en (subst (λ (x : ℕ). BlockRead x n base blocks sums part after k) er h)) in (
-      a.0,
-      a.1
-          ∙ ap₂ (λ (xs ys : List ℕ). xs ++ ys) (gathered_same p (λ j. get_or sums j 0) v columns (λ j l y. ev j l))
-          (ap (λ (x : ℕ). drop x part) (sym a.0)),
-    )
 
 -- one block more
 module _ (c : ℕ) (p : ℕ → ℕ → Bool) (v : ℕ → ℕ → ℕ) (before out : List ℕ) (t first : ℕ) (h : CollectedTo c p v before out t first) where

@@ -76,13 +76,12 @@ module _ (f : Meaning) (w : Lawful f) (two : CharacteristicTwo f) (rows columns 
   }
 
 -- the message that is read from a word that stands in a buffer by rows
-pub recovered_from : (f : Meaning) → Lawful f → (rows columns e : ℕ) (blocks word xs ys : List ℕ)
-    → ((k : ℕ) → k < e * columns → get_or xs k 0 ≡ get_or ys k 0)
-    → ((l j : ℕ) → l < e → j < columns → coefficient columns ys j l ≡ get_or word (j * e + l) 0)
+pub recovered_from : (f : Meaning) → Lawful f → (rows columns e : ℕ) (blocks word xs : List ℕ)
+    → ((l j : ℕ) → l < e → j < columns → coefficient columns xs j l ≡ get_or word (j * e + l) 0)
     → collected columns (frees rows columns blocks) (λ t j. spectrum f e (coefficient columns xs j) t) e ≡ recovered f e rows columns blocks word
-recovered_from f w rows columns e blocks word xs ys same is =
+recovered_from f w rows columns e blocks word xs is =
     collected_same columns (frees rows columns blocks) (λ t j. spectrum f e (coefficient columns xs j) t) (λ t j. spectrum f e (λ l. get_or word (j * e + l) 0) t) e
     (λ t j h g y.
     total_same f w e (λ l. f.product (coefficient columns xs j l) (power f (f.inverse (root f e)) (l * t)))
     (λ l. f.product (get_or word (j * e + l) 0) (power f (f.inverse (root f e)) (l * t)))
-    (λ l a. ap (λ (x : ℕ). f.product x (power f (f.inverse (root f e)) (l * t))) (same (l * columns + j) (place_within e columns l j a g) ∙ is l j a g)))
+    (λ l a. ap (λ (x : ℕ). f.product x (power f (f.inverse (root f e)) (l * t))) (is l j a g)))

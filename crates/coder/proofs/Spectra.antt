@@ -1,37 +1,10 @@
--- The spectrum of a message's word, block after block.
-use Rattle.std.proofs.Common.{◌≡◌, ℕ, ◌+◌, ◌*◌, ◌<◌, ◌≤◌, cond, List, length, get_or, sym, ◌∙◌, subst, ⊎_elim, arith, rules}
+-- A buffer of rows, written row after row.
+use Rattle.std.proofs.Common.{◌≡◌, ℕ, ◌+◌, ◌*◌, ◌<◌, ◌≤◌, List, length, get_or, sym, ◌∙◌, subst, ⊎_elim, arith, rules}
 use borrow.Rule.Slice.PartMut.{put_mid}
 use Rattle.std.proofs.lemmas.List.{places}
 use Rattle.std.proofs.lemmas.Bool.{cases_eq}
-use Rattle.field.specs.Meaning.{Meaning}
-use Rattle.algebra.specs.Matrices.{free, count}
-use Rattle.algebra.specs.Solutions.{solved, filled}
-use Rattle.blocks.specs.Blocks.{block_at}
 use Rattle.coder.specs.Columns.{coefficient}
-use Rattle.coder.specs.Forms.{matrix}
 use Rattle.coder.proofs.Horner.{row_fits}
-
--- what `spread_free` leaves in the columns
-abbrev pub Spread : ℕ → ℕ → List ℕ → ℕ → List ℕ → ℕ → List ℕ → Type 0
-Spread rows columns blocks base message first values = (j : ℕ) → j < columns
-    → get_or values j 0 ≡ cond (free rows (matrix columns blocks base) j) (get_or message (first + count j (free rows (matrix columns blocks base))) 0) 0
-
--- what `solve` makes of them
-abbrev pub Solved : Meaning → ℕ → ℕ → List ℕ → ℕ → List ℕ → List ℕ → Type 0
-Solved f rows n blocks base values row = (v : ℕ → ℕ) → ((j : ℕ) → j < n → get_or values j 0 ≡ cond (free rows (matrix n blocks base) j) (v j) 0)
-    → (j : ℕ) → j < n → get_or row j 0 ≡ solved f rows n (matrix n blocks base) v j
-
-pub block_filled : (f : Meaning) (rows columns t r r' c n base first : ℕ) (blocks message values row : List ℕ) → r ≡ rows → r' ≡ rows → c ≡ columns → n ≡ columns
-    → base ≡ t * (rows * columns) → Spread r c blocks base message first values → Solved f r' n blocks base values row
-    → (j : ℕ) → j < columns → get_or row j 0 ≡ filled f rows columns (block_at rows columns blocks t) (λ k. get_or message (first + k) 0) j
-block_filled f rows columns t r r' c n base first blocks message values row er er' ec en eb a b =
-    let a' : Spread rows columns blocks (t * (rows * columns)) message first values =
-    subst (λ (x : ℕ). Spread rows columns blocks x message first values) eb
-    (subst (λ (x : ℕ). Spread rows x blocks base message first values) ec (subst (λ (x : ℕ). Spread x c blocks base message first values) er a)) in
-    let b' : Solved f rows columns blocks (t * (rows * columns)) values row =
-    subst (λ (x : ℕ). Solved f rows columns blocks x values row) eb
-    (subst (λ (x : ℕ). Solved f rows x blocks base values row) en (subst (λ (x : ℕ). Solved f x n blocks base values row) er' b)) in
-    b' (λ j. get_or message (first + count j (free rows (block_at rows columns blocks t))) 0) a'
 
 -- row t of a buffer of rows is written anew
 module _ (columns start n t : ℕ) (xs ys : List ℕ) (es : start ≡ t * columns) (en : n ≡ columns) (within : start + n ≤ length xs) (ly : length ys ≡ n) where

@@ -1,5 +1,5 @@
 -- Symbol l of each column of a word, written column by column; and symbol after symbol.
-use Rattle.std.proofs.Common.{◌≡◌, ℕ, ◌+◌, ◌*◌, ◌/◌, ◌%◌, ◌<◌, ◌≤◌, List, length, get_or, set, sym, refl, ap, ◌∙◌, subst, ⊎_elim, mul_comm, arith}
+use Rattle.std.proofs.Common.{◌≡◌, ℕ, ◌+◌, ◌*◌, ◌/◌, ◌%◌, ◌<◌, ◌≤◌, List, length, get_or, set, sym, ap, ◌∙◌, subst, ⊎_elim, mul_comm, arith}
 use Rattle.std.proofs.lemmas.Nat.{mul-add-lt, div-mul-add, mod-mul-add}
 use Rattle.std.proofs.lemmas.List.{get_or-set_same, get_or-set_other}
 use Rattle.std.proofs.lemmas.Bool.{cases_eq}
@@ -13,9 +13,6 @@ pub record WrittenTo (columns e l : ℕ) (v : ℕ → ℕ) (before after : List 
   pub done : (j : ℕ) → j < n → get_or after (j * e + l) 0 ≡ v j
   pub others : (i : ℕ) → (i % e ≡ l → ⊥) → get_or after i 0 ≡ get_or before i 0
   pub past : (i : ℕ) → columns * e ≤ i → get_or after i 0 ≡ get_or before i 0
-
-pub written_none : (columns e l : ℕ) (v : ℕ → ℕ) (before : List ℕ) → WrittenTo columns e l v before before 0
-written_none columns e l v before = record { done = λ j h. absurd (omega arith); others = λ i ne. refl; past = λ i h. refl }
 
 pub written_more : (columns e l n : ℕ) (v : ℕ → ℕ) (before after : List ℕ) → l < e → n < columns → n * e + l < length after
     → WrittenTo columns e l v before after n → WrittenTo columns e l v before (set after (n * e + l) (v n)) (n + 1)
@@ -31,17 +28,10 @@ written_more columns e l n v before after hl hn room a = record {
   past = λ i h. get_or-set_other after (n * e + l) i (v n) 0 (λ s. omega (arith, place_within columns e n l hn hl)) ∙ a.past i h;
 }
 
-pub written_all : (columns e l : ℕ) (v : ℕ → ℕ) (before after : List ℕ) (n : ℕ) → columns ≤ n
-    → WrittenTo columns e l v before after n → SymbolWritten columns e l v before after
-written_all columns e l v before after n h a = record { here = λ j g. a.done j (omega arith); others = a.others; past = a.past }
-
 -- the symbols below n of every column are u j l
 pub record SymbolsTo (columns e : ℕ) (u : ℕ → ℕ → ℕ) (before after : List ℕ) (n : ℕ) : Type 0 where
   pub done : (j l : ℕ) → j < columns → l < n → get_or after (j * e + l) 0 ≡ u j l
   pub past : (i : ℕ) → columns * e ≤ i → get_or after i 0 ≡ get_or before i 0
-
-pub symbols_none : (columns e : ℕ) (u : ℕ → ℕ → ℕ) (before : List ℕ) → SymbolsTo columns e u before before 0
-symbols_none columns e u before = record { done = λ j l h g. absurd (omega arith); past = λ i h. refl }
 
 pub symbols_more : (columns e n : ℕ) (u : ℕ → ℕ → ℕ) (v : ℕ → ℕ) (before mid after : List ℕ) → n < e
     → ((j : ℕ) → j < columns → v j ≡ u j n) → SymbolsTo columns e u before mid n → SymbolWritten columns e n v mid after

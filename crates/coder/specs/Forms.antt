@@ -4,9 +4,9 @@ use Rattle.algebra.specs.Matrices.{free, count}
 use Rattle.algebra.specs.Solutions.{offset}
 use Rattle.blocks.specs.Blocks.{block_at}
 
--- the matrix that starts at `base` in a buffer, row by row
-abbrev pub matrix : ℕ → List ℕ → ℕ → ℕ → ℕ → ℕ
-matrix columns blocks base i j = slice_index blocks (base + (i * columns + j))
+-- the matrix that stands row by row in a list
+abbrev pub row_major : ℕ → List ℕ → ℕ → ℕ → ℕ
+row_major columns xs i j = slice_index xs (i * columns + j)
 
 -- the free columns of the block at each frequency
 abbrev pub frees : ℕ → ℕ → List ℕ → ℕ → ℕ → Bool

@@ -9,40 +9,36 @@ ghost use Rattle.refusal.specs.declared.Refusal.TheVariants.{Buffer};
 ghost use Rattle.coder.specs.Forms.{dimension as dimension_of};
 ghost use Rattle.coder.specs.Encoding.{spread, encoded, Encodable, encode_refusal};
 
-use super::fill::{solve, spread_free};
-use super::forms::{count_dimension, count_free};
-use super::transform::{row_start, synthesize};
+use super::forms::Forms;
+use super::matrices::{Matrix, row_start, word_length};
+use super::transform::synthesize;
 use array::Shape;
-use blocks::{block_start, root};
-use code::are_symbols;
-use field::{Field, Symbol};
+use blocks::root;
+use field::{Field, Symbol, are_symbols};
 use refusal::Refusal;
 
-// Refuses with Buffer, Length, Symbol, then Room.
+// Refuses with Length, Symbol, then Room.
+#[tactic(auto, using(field::proofs::SymbolTests::symbols_at, field::proofs::SymbolTests::symbols_fail))]
 fn judge(
     order: u16,
-    shape: &Shape,
-    blocks: &[Symbol],
+    forms: &Forms,
     message: &[Symbol],
     out: usize,
     work: usize,
 ) -> Result<(), Refusal>
-    ensures judged { let s = shape.now in
-        Encodable order s.size s.rows s.columns blocks.now message.now out work result }
-    ensures refusal { let s = shape.now in
-        let answer = encode_refusal order s.size s.rows s.columns blocks.now message.now out work in
+    ensures judged { let s = forms.now.shape in
+        Encodable order s.size s.rows s.columns forms.now.symbols.now message.now out work result }
+    ensures refusal { let s = forms.now.shape in
+        let answer = encode_refusal order s.size s.rows s.columns forms.now.symbols.now message.now out work in
         MatchResult result (λ _. answer ≡ None) (λ x. answer ≡ Some x) }
 {
-    if blocks.len() < 16384 {
-        return Err(Refusal::Buffer);
-    }
-    if message.len() != count_dimension(shape, blocks) {
+    if message.len() != forms.dimension() {
         return Err(Refusal::Length);
     }
     if !are_symbols(message, order) {
         return Err(Refusal::Symbol);
     }
-    let length = shape.columns() * shape.size();
+    let length = word_length(&forms.shape());
     if out < length || work < length {
         return Err(Refusal::Room);
     }
@@ -52,73 +48,45 @@ fn judge(
 // The spectrum at frequency `t`, from the message symbols from `first` on.
 fn fill_block<F: Field>(
     f: &F,
-    shape: &Shape,
-    blocks: &[Symbol],
+    forms: &Forms,
     message: &[Symbol],
     t: usize,
     first: usize,
     row: &mut [Symbol],
 )
-    requires frequency { t < shape.now.size }
-    requires room { 16384 ≤ length blocks.now }
-    requires sized { length row.old ≡ shape.now.columns }
+    requires frequency { t < forms.now.shape.size }
+    requires sized { length row.old ≡ forms.now.shape.columns }
     requires few { first ≤ 65536 }
-    ensures { let s = shape.now in
+    ensures { let s = forms.now.shape in
         ((j : ℕ) → j < s.columns → slice_index row.new j
-        ≡ filled (F.Field.meaning f.now) s.rows s.columns (block_at s.rows s.columns blocks.now t)
+        ≡ filled (F.Field.meaning f.now) s.rows s.columns (block_at s.rows s.columns forms.now.symbols.now t)
         (λ k. slice_index message.now (first + k)) j) }
 {
-    let mut space = [0; 64];
-    let values = &mut space[0..shape.columns()];
-    let base = block_start(shape, t);
-    spread_free(
-        blocks,
-        base,
-        shape.rows(),
-        shape.columns(),
-        message,
-        first,
-        values,
-    );
-    solve(f, blocks, base, shape.rows(), values, row);
+    forms.block(t).fill(f, message, first, row);
 }
 
 // The spectrum of the word of a message, frequency by frequency.
-fn fill_spectrum<F: Field>(
-    f: &F,
-    shape: &Shape,
-    blocks: &[Symbol],
-    message: &[Symbol],
-    work: &mut [Symbol],
-)
-    requires room { 16384 ≤ length blocks.now }
-    requires sized { length work.old ≡ shape.now.size * shape.now.columns }
-    ensures { let s = shape.now in
+fn fill_spectrum<F: Field>(f: &F, forms: &Forms, message: &[Symbol], work: &mut [Symbol])
+    requires sized { length work.old ≡ forms.now.shape.size * forms.now.shape.columns }
+    ensures { let s = forms.now.shape in
         ((t j : ℕ) → t < s.size → j < s.columns → coefficient s.columns work.new j t
-        ≡ spread (F.Field.meaning f.now) s.rows s.columns blocks.now message.now t j) }
+        ≡ spread (F.Field.meaning f.now) s.rows s.columns forms.now.symbols.now message.now t j) }
 {
+    let shape = forms.shape();
     let mut first = 0;
+    // By index: what is written through chunks of a slice is not known afterwards.
     for t in 0..shape.size() {
         let start = row_start(shape.size(), shape.columns(), t);
         fill_block(
             f,
-            shape,
-            blocks,
+            forms,
             message,
             t,
             first,
             &mut work[start..start + shape.columns()],
         );
-        first += count_free(blocks, block_start(shape, t), shape.rows(), shape.columns());
+        first += forms.count_free(t);
     }
-}
-
-// The number of symbols of a word.
-pub(crate) fn word_length(shape: &Shape) -> usize
-    ensures is { result ≡ shape.now.columns * shape.now.size }
-    ensures turned { result ≡ shape.now.size * shape.now.columns }
-{
-    shape.columns() * shape.size()
 }
 
 // The word of a message, into `out`. The echelon forms stand in `blocks`; `work` is free in its first columns x size symbols afterwards.
@@ -151,10 +119,12 @@ pub fn encode<F: Field>(
         Holds m s.size s.rows s.columns cells blocks.now →
         PassesAll m s.size s.rows s.columns cells out.new) }
 {
-    judge(f.order(), shape, blocks, message, out.len(), work.len())?;
-    let length = word_length(shape);
-    fill_spectrum(f, shape, blocks, message, &mut work[0..length]);
-    synthesize(f, shape, root(f, shape), &work[0..length], out);
+    let forms = Forms::new(shape, blocks)?;
+    judge(f.order(), &forms, message, out.len(), work.len())?;
+    let table = &mut work[..word_length(shape)];
+    fill_spectrum(f, &forms, message, table);
+    let spectra = Matrix::new(table, shape.size(), shape.columns());
+    synthesize(f, root(f, shape), &spectra, out);
     Ok(())
 }
 
@@ -165,8 +135,5 @@ pub fn dimension(shape: &Shape, blocks: &[Symbol]) -> Result<usize, Refusal>
         (λ n. (16384 ≤ length blocks.now) × (n ≡ dimension_of s.rows s.columns s.size blocks.now))
         (λ x. (length blocks.now < 16384) × (x ≡ Buffer)) }
 {
-    if blocks.len() < 16384 {
-        return Err(Refusal::Buffer);
-    }
-    Ok(count_dimension(shape, blocks))
+    Ok(Forms::new(shape, blocks)?.dimension())
 }

@@ -1,95 +1,77 @@
 // The spectrum of a word at one frequency: message symbols in the free columns, and in each leading column the sum that its row asks for.
-ghost use Rattle.std.specs.Prelude.{◌≡◌, ℕ, ◌+◌, ◌*◌, ◌<◌, ◌≤◌, length, if◌then◌else◌, slice_index};
+ghost use Rattle.std.specs.Prelude.{◌≡◌, ℕ, ◌+◌, ◌<◌, ◌≤◌, length, if◌then◌else◌, slice_index};
 ghost use Rattle.field.specs.Sums.{total};
 ghost use Rattle.algebra.specs.Matrices.{free, count};
-ghost use Rattle.algebra.specs.Solutions.{solved};
-ghost use Rattle.coder.specs.Forms.{matrix};
+ghost use Rattle.algebra.specs.Solutions.{solved, filled};
+ghost use Rattle.coder.specs.Forms.{row_major};
 
-use super::forms::{entry, lead_row_of};
+use super::matrices::Matrix;
 use field::{Field, Symbol};
 
-// The symbol at a place, or 0 past the end.
-fn symbol_at(xs: &[Symbol], k: usize) -> Symbol
-    ensures { result ≡ slice_index xs.now k }
+// A row times a vector.
+fn row_times<F: Field>(f: &F, row: &[Symbol], values: &[Symbol]) -> Symbol
+    requires { length row.now ≡ length values.now }
+    ensures { let m = F.Field.meaning f.now in
+        result ≡ total m (length row.now) (λ h. m.product (slice_index row.now h) (slice_index values.now h)) }
 {
-    if k < xs.len() { xs[k] } else { 0 }
+    row.iter().zip(values).fold(
+        0,
+        |sum, (entry, value)| f.sum(sum, f.product(*entry, *value)),
+    )
 }
 
-// The message symbols from `first` on, one for each free column of a block, and 0 in the leading columns.
-pub(crate) fn spread_free(
-    blocks: &[Symbol],
-    base: usize,
-    rows: usize,
-    columns: usize,
-    message: &[Symbol],
-    first: usize,
-    values: &mut [Symbol],
-)
-    requires room { base + rows * columns ≤ length blocks.now }
-    requires sized { length values.old ≡ columns }
-    requires few { first ≤ 65536 }
-    ensures { let p = free rows (matrix columns blocks.now base) in
-        ((j : ℕ) → j < columns → slice_index values.new j ≡ (if p j then slice_index message.now (first + count j p) else 0)) }
-{
-    let mut k = first;
-    for j in 0..columns {
-        if lead_row_of(blocks, base, rows, columns, j) == rows {
-            values[j] = symbol_at(message, k);
-            k += 1;
-        } else {
-            values[j] = 0;
+impl<'a> Matrix<'a> {
+    // The message symbols from `first` on, one for each free column, and 0 in the leading columns.
+    fn spread_free(&self, message: &[Symbol], first: usize, values: &mut [Symbol])
+        requires sized { length values.old ≡ self.now.columns }
+        requires few { first ≤ 65536 }
+        ensures { let p = free self.now.rows (row_major self.now.columns self.now.symbols.now) in
+            ((j : ℕ) → j < self.now.columns →
+            slice_index values.new j ≡ (if p j then slice_index message.now (first + count j p) else 0)) }
+    {
+        let mut k = first;
+        for (j, value) in values.iter_mut().enumerate() {
+            if self.is_free(j) {
+                *value = message.get(k).copied().unwrap_or(0);
+                k += 1;
+            } else {
+                *value = 0;
+            }
         }
     }
-}
 
-// Row i of a block times a vector.
-fn row_times<F: Field>(
-    f: &F,
-    blocks: &[Symbol],
-    base: usize,
-    rows: usize,
-    i: usize,
-    values: &[Symbol],
-) -> Symbol
-    requires room { base + rows * length values.now ≤ length blocks.now }
-    requires row { i < rows }
-    ensures { let m = F.Field.meaning f.now in
-        let n = length values.now in
-        result ≡ total m n (λ h. m.product (matrix n blocks.now base i h) (slice_index values.now h)) }
-{
-    let mut sum = 0;
-    for h in 0..values.len() {
-        sum = f.sum(
-            sum,
-            f.product(entry(blocks, base, rows, values.len(), i, h), values[h]),
-        );
+    // The solution of a block that has the given symbols in its free columns.
+    fn solve<F: Field>(&self, f: &F, values: &[Symbol], row: &mut [Symbol])
+        requires values { length values.now ≡ self.now.columns }
+        requires sized { length row.old ≡ self.now.columns }
+        ensures { let m = F.Field.meaning f.now in
+            let n = self.now.columns in
+            let rows = self.now.rows in
+            let b = row_major n self.now.symbols.now in
+            ((v : ℕ → ℕ) → ((j : ℕ) → j < n → slice_index values.now j ≡ (if free rows b j then v j else 0)) →
+            (j : ℕ) → j < n → slice_index row.new j ≡ solved m rows n b v j) }
+    {
+        for (j, symbol) in row.iter_mut().enumerate() {
+            *symbol = match self.lead_row(j) {
+                Some(i) => row_times(f, self.row(i), values),
+                None => values[j],
+            };
+        }
     }
-    sum
-}
 
-// The solution of a block that has the given symbols in its free columns.
-pub(crate) fn solve<F: Field>(
-    f: &F,
-    blocks: &[Symbol],
-    base: usize,
-    rows: usize,
-    values: &[Symbol],
-    row: &mut [Symbol],
-)
-    requires room { base + rows * length values.now ≤ length blocks.now }
-    requires sized { length row.old ≡ length values.now }
-    ensures { let m = F.Field.meaning f.now in
-        let n = length values.now in
-        let b = matrix n blocks.now base in
-        ((v : ℕ → ℕ) → ((j : ℕ) → j < n → slice_index values.now j ≡ (if free rows b j then v j else 0)) →
-        (j : ℕ) → j < n → slice_index row.new j ≡ solved m rows n b v j) }
-{
-    for j in 0..values.len() {
-        let i = lead_row_of(blocks, base, rows, values.len(), j);
-        row[j] = if i < rows {
-            row_times(f, blocks, base, rows, i, values)
-        } else {
-            values[j]
-        };
+    // The spectrum from the message symbols from `first` on.
+    pub(crate) fn fill<F: Field>(&self, f: &F, message: &[Symbol], first: usize, row: &mut [Symbol])
+        requires narrow { self.now.columns ≤ 64 }
+        requires sized { length row.old ≡ self.now.columns }
+        requires few { first ≤ 65536 }
+        ensures { let n = self.now.columns in
+            ((j : ℕ) → j < n → slice_index row.new j
+            ≡ filled (F.Field.meaning f.now) self.now.rows n (row_major n self.now.symbols.now)
+            (λ k. slice_index message.now (first + k)) j) }
+    {
+        let mut space = [0; 64];
+        let values = &mut space[..self.columns()];
+        self.spread_free(message, first, values);
+        self.solve(f, values, row);
     }
 }

@@ -1,105 +1,101 @@
-// Reading of the echelon forms in a block buffer. On altered contents, too, each function has one answer.
-// A block is given by its first place in the buffer, `base`, and its rows and columns.
-ghost use Rattle.std.specs.Prelude.{◌≡◌, ◌+◌, ◌-◌, ◌*◌, ◌<◌, ◌≤◌, ◌&&◌, length, MatchResult, nat_lt};
-ghost use Rattle.algebra.specs.Matrices.{starts, lead_row, free, count};
+// The echelon forms in a block buffer. On altered contents, too, each function has one answer.
+ghost use Rattle.std.specs.Prelude.{◌≡◌, ℕ, ◌<◌, ◌≤◌, ◌&&◌, length, MatchResult, nat_lt};
+ghost use Rattle.algebra.specs.Matrices.{count};
+ghost use Rattle.blocks.specs.Blocks.{block_at};
 ghost use Rattle.refusal.specs.declared.Refusal.TheVariants.{Buffer};
-ghost use Rattle.coder.specs.Forms.{matrix, dimension, deficient as deficient_of};
+ghost use Rattle.coder.specs.Forms.{row_major, frees, rank_at, dimension as dimension_of, deficient as deficient_of};
 
-use array::Shape;
+use super::matrices::Matrix;
+use array::{BLOCK_SYMBOLS, Shape};
 use blocks::block_start;
 use field::Symbol;
 use refusal::Refusal;
 
-// Entry (i, j) of a block.
-pub(crate) fn entry(
-    blocks: &[Symbol],
-    base: usize,
-    rows: usize,
-    columns: usize,
-    i: usize,
-    j: usize,
-) -> Symbol
-    requires room { base + rows * columns ≤ length blocks.now }
-    requires row { i < rows }
-    requires column { j < columns }
-    ensures { result ≡ matrix columns blocks.now base i j }
-{
-    blocks[base + (i * columns + j)]
+// The echelon forms of all check blocks of an array.
+#[derive(Clone, Copy)]
+pub(crate) struct Forms<'a> {
+    shape: Shape,
+    symbols: &'a [Symbol],
+    ghost room: { 16384 ≤ length symbols.now },
 }
 
-// Does row i of a block have its first nonzero symbol in column j?
-fn is_start(blocks: &[Symbol], base: usize, rows: usize, columns: usize, i: usize, j: usize) -> bool
-    requires room { base + rows * columns ≤ length blocks.now }
-    requires row { i < rows }
-    requires column { j < columns }
-    ensures { result ≡ starts (matrix columns blocks.now base i) j }
-{
-    if entry(blocks, base, rows, columns, i, j) == 0 {
-        return false;
-    }
-    for h in 0..j {
-        if entry(blocks, base, rows, columns, i, h) != 0 {
-            return false;
+impl<'a> Forms<'a> {
+    // Refuses with Buffer where there are fewer than 16,384 symbols.
+    pub(crate) fn new(shape: &Shape, symbols: &'a [Symbol]) -> Result<Self, Refusal>
+        ensures { MatchResult result
+            (λ forms. (forms.shape ≡ shape.now) × (forms.symbols.now ≡ symbols.now) × (16384 ≤ length symbols.now))
+            (λ x. (length symbols.now < 16384) × (x ≡ Buffer)) }
+    {
+        if symbols.len() < BLOCK_SYMBOLS {
+            return Err(Refusal::Buffer);
         }
+        Ok(Forms {
+            shape: *shape,
+            symbols,
+        })
     }
-    true
-}
 
-// The first row of a block that leads in column j, or the number of rows where the column is free.
-pub(crate) fn lead_row_of(
-    blocks: &[Symbol],
-    base: usize,
-    rows: usize,
-    columns: usize,
-    j: usize,
-) -> usize
-    requires room { base + rows * columns ≤ length blocks.now }
-    requires column { j < columns }
-    ensures { result ≡ lead_row rows (matrix columns blocks.now base) j }
-{
-    for i in 0..rows {
-        if is_start(blocks, base, rows, columns, i, j) {
-            return i;
-        }
+    pub(crate) fn shape(&self) -> Shape
+        ensures { result ≡ self.now.shape }
+    {
+        self.shape
     }
-    rows
-}
 
-// The number of free columns of a block.
-pub(crate) fn count_free(blocks: &[Symbol], base: usize, rows: usize, columns: usize) -> usize
-    requires { base + rows * columns ≤ length blocks.now }
-    ensures is { result ≡ count columns (free rows (matrix columns blocks.now base)) }
-    ensures few { result ≤ columns }
-{
-    let mut n = 0;
-    for j in 0..columns {
-        if lead_row_of(blocks, base, rows, columns, j) == rows {
-            n += 1;
-        }
+    // The form at frequency t.
+    pub(crate) fn block(&self, t: usize) -> Matrix<'a>
+        requires { t < self.now.shape.size }
+        ensures sized { (result.rows ≡ self.now.shape.rows) × (result.columns ≡ self.now.shape.columns) }
+        ensures entries { let s = self.now.shape in
+            ((i j : ℕ) → i < s.rows → j < s.columns →
+            row_major s.columns result.symbols.now i j ≡ block_at s.rows s.columns self.now.symbols.now t i j) }
+    {
+        let rows = self.shape.rows();
+        let columns = self.shape.columns();
+        let start = block_start(&self.shape, t);
+        Matrix::new(&self.symbols[start..start + rows * columns], rows, columns)
     }
-    n
-}
 
-// The dimension: the number of free columns of all blocks together.
-pub(crate) fn count_dimension(shape: &Shape, blocks: &[Symbol]) -> usize
-    requires { 16384 ≤ length blocks.now }
-    ensures { result ≡ dimension shape.now.rows shape.now.columns shape.now.size blocks.now }
-{
-    let mut n = 0;
-    for t in 0..shape.size() {
-        n += count_free(blocks, block_start(shape, t), shape.rows(), shape.columns());
+    // The number of free columns at frequency t.
+    #[tactic(auto, using(crate::proofs::Alike::form_count))]
+    pub(crate) fn count_free(&self, t: usize) -> usize
+        requires { t < self.now.shape.size }
+        ensures is { let s = self.now.shape in
+            result ≡ count s.columns (frees s.rows s.columns self.now.symbols.now t) }
+        ensures few { result ≤ self.now.shape.columns }
+    {
+        self.block(t).count_free()
     }
-    n
-}
 
-// Does a block lack full rank?
-fn is_deficient(blocks: &[Symbol], base: usize, rows: usize, columns: usize) -> bool
-    requires { base + rows * columns ≤ length blocks.now }
-    ensures { let rank = columns - count columns (free rows (matrix columns blocks.now base)) in
-        result ≡ (nat_lt rank rows && nat_lt rank columns) }
-{
-    let rank = columns - count_free(blocks, base, rows, columns);
-    rank < rows && rank < columns
+    // Does the block at frequency t lack full rank?
+    fn is_deficient(&self, t: usize) -> bool
+        requires { t < self.now.shape.size }
+        ensures { let s = self.now.shape in
+            let rank = rank_at s.rows s.columns self.now.symbols.now t in
+            result ≡ (nat_lt rank s.rows && nat_lt rank s.columns) }
+    {
+        let rows = self.shape.rows();
+        let columns = self.shape.columns();
+        let rank = columns - self.count_free(t);
+        rank < rows && rank < columns
+    }
+
+    // The number of free columns of all blocks together.
+    pub(crate) fn dimension(&self) -> usize
+        ensures { let s = self.now.shape in
+            result ≡ dimension_of s.rows s.columns s.size self.now.symbols.now }
+    {
+        (0..self.shape.size()).map(|t| self.count_free(t)).sum()
+    }
+
+    // How many of the blocks lack full rank.
+    fn deficient(&self) -> usize
+        ensures { let s = self.now.shape in
+            result ≡ deficient_of s.rows s.columns s.size self.now.symbols.now }
+    {
+        (0..self.shape.size())
+            .filter(|t| self.is_deficient(*t))
+            .count()
+    }
 }
 
 // How many of the blocks lack full rank. Refuses with Buffer where there are fewer than 16,384 symbols.
@@ -109,14 +105,5 @@ pub fn deficient(shape: &Shape, blocks: &[Symbol]) -> Result<usize, Refusal>
         (λ n. (16384 ≤ length blocks.now) × (n ≡ deficient_of s.rows s.columns s.size blocks.now))
         (λ x. (length blocks.now < 16384) × (x ≡ Buffer)) }
 {
-    if blocks.len() < 16384 {
-        return Err(Refusal::Buffer);
-    }
-    let mut n = 0;
-    for t in 0..shape.size() {
-        if is_deficient(blocks, block_start(shape, t), shape.rows(), shape.columns()) {
-            n += 1;
-        }
-    }
-    Ok(n)
+    Ok(Forms::new(shape, blocks)?.deficient())
 }

@@ -5,6 +5,7 @@
 mod encoding;
 mod fill;
 mod forms;
+mod matrices;
 mod recovery;
 mod transform;
 

@@ -5,17 +5,17 @@ ghost use Rattle.algebra.specs.Transforms.{spectrum};
 ghost use Rattle.algebra.specs.Solutions.{gathered, collected};
 ghost use Rattle.blocks.specs.Blocks.{Holds};
 ghost use Rattle.coder.specs.Columns.{coefficient};
-ghost use Rattle.coder.specs.Forms.{matrix, frees, dimension};
+ghost use Rattle.coder.specs.Forms.{row_major, frees, dimension};
 ghost use Rattle.coder.specs.declared.recovery.Unrecovered.TheVariants.{Refused, Fails};
 ghost use Rattle.coder.specs.Recovery.{recovered, recover_refusal, refusal_of, Recovers, OneToOne};
 
-use super::encoding::word_length;
-use super::forms::{count_dimension, lead_row_of};
-use super::transform::{evaluate, row_start, symbol_place};
-use array::{CellRow, Shape};
-use blocks::{block_start, root};
-use code::{FailedCheck, are_symbols, check};
-use field::{Field, Symbol};
+use super::forms::Forms;
+use super::matrices::{Matrix, place, row_start, word_length};
+use super::transform::evaluate;
+use array::{CELLS, CellRow, Shape};
+use blocks::root;
+use code::{FailedCheck, check};
+use field::{Field, Symbol, are_symbols};
 use refusal::Refusal;
 
 // Why no message is recovered from a word.
@@ -60,8 +60,10 @@ fn gather(word: &[Symbol], size: usize, l: usize, row: &mut [Symbol])
     ensures { (j : ℕ) → j < length row.old →
         slice_index row.new j ≡ slice_index word.now (j * size + l) }
 {
-    for j in 0..row.len() {
-        row[j] = word[symbol_place(row.len(), size, j, l)];
+    let columns = row.len();
+    // By index: what is written through an iterator over two slices is not known afterwards.
+    for (j, symbol) in row.iter_mut().enumerate() {
+        *symbol = word[place(columns, size, j, l)];
     }
 }
 
@@ -73,6 +75,7 @@ fn transpose(shape: &Shape, word: &[Symbol], work: &mut [Symbol])
         ((l j : ℕ) → l < s.size → j < s.columns →
         coefficient s.columns work.new j l ≡ slice_index word.now (j * s.size + l)) }
 {
+    // By index: what is written through chunks of a slice is not known afterwards.
     for l in 0..shape.size() {
         let start = row_start(shape.size(), shape.columns(), l);
         gather(
@@ -84,65 +87,71 @@ fn transpose(shape: &Shape, word: &[Symbol], work: &mut [Symbol])
     }
 }
 
-// The symbols in the free columns of a block, to the front of `out`; answers how many there are.
-fn read_free(
-    blocks: &[Symbol],
-    base: usize,
-    rows: usize,
-    values: &[Symbol],
-    out: &mut [Symbol],
-) -> usize
-    requires room { base + rows * length values.now ≤ length blocks.now }
-    requires space { count (length values.now) (free rows (matrix (length values.now) blocks.now base)) ≤ length out.old }
-    ensures number { let n = length values.now in
-        result ≡ count n (free rows (matrix n blocks.now base)) }
-    ensures few { result ≤ length out.old }
-    ensures wrote { let n = length values.now in
-        let p = free rows (matrix n blocks.now base) in
-        out.new ≡ gathered n p (λ j. slice_index values.now j) ++ drop (count n p) out.old }
-{
-    let mut k = 0;
-    for j in 0..values.len() {
-        if lead_row_of(blocks, base, rows, values.len(), j) == rows {
-            out[k] = values[j];
-            k += 1;
+impl<'a> Matrix<'a> {
+    // The symbols in the free columns, to the front of `out`; answers how many there are.
+    #[tactic(auto, using(algebra::proofs::Gathers::count_below))]
+    fn read_free(&self, values: &[Symbol], out: &mut [Symbol]) -> usize
+        requires values { length values.now ≡ self.now.columns }
+        requires space { let n = self.now.columns in
+            count n (free self.now.rows (row_major n self.now.symbols.now)) ≤ length out.old }
+        ensures number { let n = self.now.columns in
+            result ≡ count n (free self.now.rows (row_major n self.now.symbols.now)) }
+        ensures few { result ≤ length out.old }
+        ensures wrote { let n = self.now.columns in
+            let p = free self.now.rows (row_major n self.now.symbols.now) in
+            out.new ≡ gathered n p (λ j. slice_index values.now j) ++ drop (count n p) out.old }
+    {
+        let mut k = 0;
+        // By index: what is written through an iterator over two slices is not known afterwards.
+        for (j, value) in values.iter().enumerate() {
+            if self.is_free(j) {
+                out[k] = *value;
+                k += 1;
+            }
         }
+        k
     }
-    k
 }
 
-// The message symbols, frequency by frequency, from a word that stands in `work` by rows.
-fn read_message<F: Field>(
-    f: &F,
-    shape: &Shape,
-    blocks: &[Symbol],
-    work: &[Symbol],
-    out: &mut [Symbol],
-)
-    requires room { 16384 ≤ length blocks.now }
-    requires sized { length work.now ≡ shape.now.size * shape.now.columns }
-    requires space { dimension shape.now.rows shape.now.columns shape.now.size blocks.now ≤ length out.old }
-    ensures { let s = shape.now in
-        let m = F.Field.meaning f.now in
-        out.new
-        ≡ collected s.columns (frees s.rows s.columns blocks.now)
-        (λ t j. spectrum m s.size (coefficient s.columns work.now j) t) s.size
-        ++ drop (dimension s.rows s.columns s.size blocks.now) out.old }
+// The same, from the spectrum at frequency `t`.
+#[tactic(auto, using(crate::proofs::Alike::form_count, crate::proofs::Alike::form_gathered))]
+fn read_block(forms: &Forms, t: usize, values: &[Symbol], out: &mut [Symbol]) -> usize
+    requires frequency { t < forms.now.shape.size }
+    requires values { length values.now ≡ forms.now.shape.columns }
+    requires space { let s = forms.now.shape in
+        count s.columns (frees s.rows s.columns forms.now.symbols.now t) ≤ length out.old }
+    ensures number { let s = forms.now.shape in
+        result ≡ count s.columns (frees s.rows s.columns forms.now.symbols.now t) }
+    ensures few { result ≤ length out.old }
+    ensures wrote { let s = forms.now.shape in
+        out.new ≡ gathered s.columns (frees s.rows s.columns forms.now.symbols.now t) (λ j. slice_index values.now j)
+        ++ drop result out.old }
 {
+    forms.block(t).read_free(values, out)
+}
+
+// The message symbols, frequency by frequency, from a word that stands in `table` by rows.
+fn read_message<F: Field>(f: &F, forms: &Forms, table: &Matrix, out: &mut [Symbol])
+    requires sized { (table.now.rows ≡ forms.now.shape.size) × (table.now.columns ≡ forms.now.shape.columns) }
+    requires space { let s = forms.now.shape in
+        dimension s.rows s.columns s.size forms.now.symbols.now ≤ length out.old }
+    ensures { let s = forms.now.shape in
+        let m = F.Field.meaning f.now in
+        let blocks = forms.now.symbols.now in
+        out.new
+        ≡ collected s.columns (frees s.rows s.columns blocks)
+        (λ t j. spectrum m s.size (coefficient s.columns table.now.symbols.now j) t) s.size
+        ++ drop (dimension s.rows s.columns s.size blocks) out.old }
+{
+    let shape = forms.shape();
     let mut space = [0; 64];
-    let beta = f.inverse(root(f, shape));
+    let values = &mut space[..shape.columns()];
+    let beta = f.inverse(root(f, &shape));
     let mut x = 1;
     let mut first = 0;
     for t in 0..shape.size() {
-        let sums = &mut space[0..shape.columns()];
-        evaluate(f, work, shape.size(), x, sums);
-        first += read_free(
-            blocks,
-            block_start(shape, t),
-            shape.rows(),
-            sums,
-            &mut out[first..],
-        );
+        evaluate(f, table, x, values);
+        first += read_block(forms, t, values, &mut out[first..]);
         x = f.product(beta, x);
     }
 }
@@ -150,27 +159,27 @@ fn read_message<F: Field>(
 // Refuses with Buffer, Length, Symbol, then Room.
 fn judge(
     order: u16,
-    shape: &Shape,
+    forms: &Forms,
     cells: usize,
-    blocks: &[Symbol],
     word: &[Symbol],
     out: usize,
     work: usize,
 ) -> Result<(), Refusal>
-    ensures { let s = shape.now in
-        let answer = recover_refusal order s.size s.rows s.columns cells blocks.now word.now out work in
+    ensures { let s = forms.now.shape in
+        let answer = recover_refusal order s.size s.rows s.columns cells forms.now.symbols.now word.now out work in
         MatchResult result (λ _. answer ≡ None) (λ x. answer ≡ Some x) }
 {
-    if cells < 512 || blocks.len() < 16384 {
+    let length = word_length(&forms.shape());
+    if cells < CELLS {
         return Err(Refusal::Buffer);
     }
-    if word.len() != word_length(shape) {
+    if word.len() != length {
         return Err(Refusal::Length);
     }
     if !are_symbols(word, order) {
         return Err(Refusal::Symbol);
     }
-    if out < count_dimension(shape, blocks) || work < word_length(shape) {
+    if out < forms.dimension() || work < length {
         return Err(Refusal::Room);
     }
     Ok(())
@@ -205,18 +214,12 @@ pub fn recover<F: Field>(
         ((m.q - 1) % s.size ≡ 0 → Holds m s.size s.rows s.columns cells.now blocks.now →
         OneToOne m s.size s.rows s.columns cells.now blocks.now) }
 {
-    judge(
-        f.order(),
-        shape,
-        cells.len(),
-        blocks,
-        word,
-        out.len(),
-        work.len(),
-    )?;
+    let forms = Forms::new(shape, blocks)?;
+    judge(f.order(), &forms, cells.len(), word, out.len(), work.len())?;
     check(f, shape, cells, word)??;
-    let length = word_length(shape);
-    transpose(shape, word, &mut work[0..length]);
-    read_message(f, shape, blocks, &work[0..length], out);
-    Ok(count_dimension(shape, blocks))
+    let table = &mut work[..word_length(shape)];
+    transpose(shape, word, table);
+    let rows = Matrix::new(table, shape.size(), shape.columns());
+    read_message(f, &forms, &rows, out);
+    Ok(forms.dimension())
 }

@@ -7,7 +7,8 @@ use Rattle.coder.proofs.encoding.fill_spectrum.Given as goal
 
 abbrev pub invariant-loop-t : goal.invariant-loop-t
 invariant-loop-t g l =
-    let s = l.shape in
-    (l.first ≡ offset s.columns (frees s.rows s.columns l.blocks) l.t) × (l.first ≤ 64 * l.t)
+    let s = l.forms.shape in
+    let blocks = l.forms.symbols.now in
+    (l.first ≡ offset s.columns (frees s.rows s.columns blocks) l.t) × (l.first ≤ 64 * l.t)
     × ((t j : ℕ) → t < l.t → j < s.columns
-    → coefficient s.columns l.work j t ≡ spread (g.F.Field.meaning l.f) s.rows s.columns l.blocks l.message t j)
+    → coefficient s.columns l.work j t ≡ spread (g.F.Field.meaning l.f) s.rows s.columns blocks l.message t j)

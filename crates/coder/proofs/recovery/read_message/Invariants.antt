@@ -9,7 +9,7 @@ use Rattle.coder.proofs.recovery.read_message.Given as goal
 abbrev pub invariant-loop-t : goal.invariant-loop-t
 invariant-loop-t g l =
     let m = g.F.Field.meaning l.f in
-    let s = l.shape in
-    (length l.space ≡ 64) × (l.x ≡ power m l.beta l.t) × (l.first ≤ length l.out)
-    × CollectedTo s.columns (frees s.rows s.columns l.blocks) (λ t j. spectrum m s.size (coefficient s.columns l.work j) t)
+    let s = l.forms.shape in
+    (l.x ≡ power m l.beta l.t) × (l.first ≤ length l.out)
+    × CollectedTo s.columns (frees s.rows s.columns l.forms.symbols.now) (λ t j. spectrum m s.size (coefficient s.columns l.table.symbols.now j) t)
     l.initial.out l.out l.t l.first

@@ -1,4 +1,4 @@
-use Rattle.std.proofs.Common.{◌≡◌, length}
+use Rattle.std.proofs.Common.{◌≡◌}
 use Rattle.field.specs.Meaning.{power}
 use Rattle.algebra.specs.Transforms.{synthesis}
 use Rattle.coder.specs.Columns.{coefficient}
@@ -8,6 +8,6 @@ use Rattle.coder.proofs.transform.synthesize.Given as goal
 abbrev pub invariant-loop-l : goal.invariant-loop-l
 invariant-loop-l g l =
     let m = g.F.Field.meaning l.f in
-    let s = l.shape in
-    (length l.space ≡ 64) × (l.x ≡ power m l.alpha l.l)
-    × SymbolsTo s.columns s.size (λ j k. synthesis m s.size (coefficient s.columns l.work j) k) l.initial.out l.out l.l
+    let s = l.spectra in
+    (l.x ≡ power m l.alpha l.l)
+    × SymbolsTo s.columns s.rows (λ j k. synthesis m s.rows (coefficient s.columns s.symbols.now j) k) l.initial.out l.out l.l
