@@ -1,5 +1,5 @@
 -- A change of the history, with the echelon forms built after it, follows the reference model.
-use Rattle.std.proofs.Common.{◌≡◌, ℕ, ◌-◌, ◌*◌, ◌%◌, ◌≤◌, true, List, get_or, IfOk, Result, sym, ◌∙◌, subst, ap₂, arith}
+use Rattle.std.proofs.Common.{◌≡◌, ℕ, ◌-◌, ◌%◌, ◌<◌, ◌≤◌, true, List, length, None, Ok, Err, IfOk, Result, sym, ◌∙◌, subst, ap₂, arith, MatchResult}
 use Rattle.std.proofs.lemmas.Result.{IfOk-weaker}
 use Rattle.std.proofs.lemmas.Bool.Decides.{nat_tests}
 use Rattle.refusal.specs.declared.Refusal.{Refusal}
@@ -13,31 +13,44 @@ use Rattle.coder.specs.Recovery.{OneToOne}
 use Rattle.history.specs.declared.plain.ChangeRecord.{ChangeRecord}
 use Rattle.history.specs.declared.plain.Lengths.{Lengths}
 use Rattle.history.specs.declared.edit.History.{History}
-use Rattle.history.specs.States.{State}
-use Rattle.history.specs.Model.{Model, Request}
-use Rattle.history.specs.Standing.{StandsFor, Kept}
+use Rattle.history.specs.Histories.{state_of}
+use Rattle.history.specs.States.{State, lengths}
+use Rattle.history.specs.Model.{Model, Request, place, resize, undo, redo, step}
+use Rattle.history.specs.Standing.{StandsFor, refusal_of, Serves}
 use Rattle.history.proofs.Drawings.{shown_lawful}
-use Rattle.editor.specs.Editing.{state_of, Forms, PastKept, Stands, Follows}
+use Rattle.editor.specs.Editing.{Forms, PastKept, Stands, Changes}
 
--- what was built for the shape of a history are its forms
-pub forms_built : (f : Meaning) (s : Shape) (h : History) (cells : List CellRow) (records : List ChangeRecord) (was new : List ℕ) → s ≡ h.shape
-    → Holds f s.size s.rows s.columns cells new × ((i : ℕ) → s.rows * s.columns * s.size ≤ i → get_or new i 0 ≡ get_or was i 0)
-    → Forms f (state_of h cells records) new × PastKept (state_of h cells records) was new
-forms_built f s h cells records was new e p =
-    subst (λ (x : Shape). Holds f x.size x.rows x.columns cells new
-    × ((i : ℕ) → x.rows * x.columns * x.size ≤ i → get_or new i 0 ≡ get_or was i 0)) e p
+-- where a change is not refused, the buffers are long enough to build the echelon forms
+room : (q : ℕ) (s : State) (n : Lengths) (a : Request) → None ≡ refusal_of q s n a → (512 ≤ n.cells) × (16384 ≤ n.blocks)
+room q s n (place i j row) h = grind (arith, nat_tests)
+room q s n (resize e) h = grind (arith, nat_tests)
+room q s n undo h = grind (arith, nat_tests)
+room q s n redo h = grind (arith, nat_tests)
 
-module _ (f : Meaning) (order : ℕ) (e : order ≡ f.q) (before after : State) (n : Lengths) (a : Request) (r : Result (Unit {0}) Refusal)
-    (kept : (m : Model) → StandsFor order m before → Kept order m n a r after) (was : List ℕ) where
-  pub followed : (new : List ℕ) → Forms f after new → (m : Model) → Stands f m before was → Follows f m n a r after new
-  followed new forms m s =
-      let k : Kept f.q m n a r after =
-      subst (λ (q : ℕ). Kept q m n a r after) e (kept m (subst (λ (q : ℕ). StandsFor q m before) (sym e) s.history)) in
-      record { says = k.says; stands = record { history = k.stands; forms = forms } }
-
-  -- a refused change leaves the forms, too
-  pub followed_refused : after ≡ before → (m : Model) → Stands f m before was → Follows f m n a r after was
-  followed_refused same m s = followed was (subst (λ (x : State). Forms f x was) (sym same) s.forms) m s
+-- after a step that the history makes, the buffers are long enough for the forms, and the editor follows its models
+module _ (f : Meaning) (order : ℕ) (e : order ≡ f.q) (before after : State) (a : Request) (was : List ℕ) where
+  pub made : (new : List ℕ) (r : Result (Unit {0}) Refusal) → Serves order before after (length was) a (Ok tt)
+      → length after.cells ≡ length before.cells
+      → MatchResult r (λ _. Forms f after new × PastKept after was new) (λ _. 512 ≤ length after.cells → length was < 16384)
+      → Changes f before after was new a r
+  made new (Ok u) done long built = record {
+    says = subst (λ (q : ℕ). None ≡ refusal_of q before (lengths before (length was)) a) e done.says;
+    does = (done.does, built.0, built.1);
+    model = λ m s.
+        let k = done.model m (subst (λ (q : ℕ). StandsFor q m before) (sym e) s.history) in
+        record {
+          says = k.says;
+          stands = record {
+            history = subst (λ (q : ℕ). StandsFor q (step m (lengths before (length was)) a) after) e k.stands;
+            forms = built.0;
+          };
+        };
+  }
+  made new (Err x) done long short =
+      absurd
+      (let enough = room order before (lengths before (length was)) a done.says in
+      let few = short (omega arith) in
+      omega arith)
 
 -- where an editor stands for a model, its size divides q - 1
 pub size_divides : (f : Meaning) (m : Model) (s : State) (blocks : List ℕ) → Stands f m s blocks → (f.q - 1) % s.size ≡ 0

@@ -1,20 +1,13 @@
 -- An editor in its buffers: what a change leaves there, and what it means that it stands for a reference model.
-use Rattle.std.specs.Prelude.{◌≡◌, ℕ, ◌*◌, ◌≤◌, List, Ok, Err, Result, slice_index}
+use Rattle.std.specs.Prelude.{◌≡◌, ℕ, ◌*◌, ◌≤◌, List, length, Ok, Err, Result, slice_index}
 use Rattle.std.specs.Result.{result_err}
 use Rattle.refusal.specs.declared.Refusal.{Refusal}
 use Rattle.field.specs.Meaning.{Meaning}
-use Rattle.array.specs.declared.plain.CellRow.{CellRow}
 use Rattle.blocks.specs.Blocks.{Holds}
-use Rattle.history.specs.declared.plain.ChangeRecord.{ChangeRecord}
 use Rattle.history.specs.declared.plain.Lengths.{Lengths}
-use Rattle.history.specs.declared.edit.History.{History}
-use Rattle.history.specs.States.{State, state}
+use Rattle.history.specs.States.{State, lengths}
 use Rattle.history.specs.Model.{Model, Request, answer, step}
-use Rattle.history.specs.Standing.{StandsFor}
-
--- the array, its size and its history as they stand in the buffers of cells and records
-abbrev pub state_of : History → List CellRow → List ChangeRecord → State
-state_of h cells records = state h.shape h.count h.in_force cells records
+use Rattle.history.specs.Standing.{StandsFor, refusal_of, state_after}
 
 -- the lengths of the buffers that are lent
 abbrev pub lent : ℕ → ℕ → ℕ → Lengths
@@ -42,3 +35,9 @@ pub record Stands (f : Meaning) (m : Model) (s : State) (blocks : List ℕ) : Ty
 pub record Follows (f : Meaning) (m : Model) (n : Lengths) (a : Request) (r : Result (Unit {0}) Refusal) (after : State) (blocks : List ℕ) : Type 0 where
   pub says : result_err r ≡ answer m n a
   pub stands : Stands f (step m n a) after blocks
+
+-- What a change does: its answer, what it leaves in the buffers, and that it follows each model that the editor stands for.
+pub record Changes (f : Meaning) (before after : State) (was new : List ℕ) (a : Request) (r : Result (Unit {0}) Refusal) : Type 0 where
+  pub says : result_err r ≡ refusal_of f.q before (lengths before (length was)) a
+  pub does : Made f before (state_after before a) after was new r
+  pub model : (k : Model) → Stands f k before was → Follows f k (lengths before (length was)) a r after new

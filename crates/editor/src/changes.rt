@@ -1,28 +1,28 @@
 // The editor, and the calls that change what it holds. After each accepted change the block buffer holds the echelon forms of the
 // array and size as they are then; a refused one leaves everything as it was.
-ghost use Rattle.std.specs.Prelude.{◌≡◌, ℕ, ◌*◌, ◌≤◌, List, ◌++◌, length, drop, replicate, IfOk, MatchResult, slice_index};
+ghost use Rattle.std.specs.Prelude.{◌≡◌, ℕ, ◌*◌, ◌<◌, ◌≤◌, List, ◌++◌, length, drop, replicate, IfOk, MatchResult, slice_index};
 ghost use Rattle.std.specs.Result.{result_err};
 ghost use Rattle.array.specs.Cells.{empty};
 ghost use Rattle.blocks.specs.Blocks.{Holds};
-ghost use Rattle.history.specs.Refusals.{new_refusal, place_refusal, resize_refusal, undo_refusal, redo_refusal};
-ghost use Rattle.history.specs.States.{counts, lengths, placed, resized, undo_fits, undone, redo_fits, redone};
-ghost use Rattle.history.specs.Model.{Model, fresh, place, resize, undo, redo};
-ghost use Rattle.editor.specs.Editing.{state_of, lent, Forms, PastKept, Made, Stands, Follows};
+ghost use Rattle.history.specs.Histories.{state_of};
+ghost use Rattle.history.specs.Refusals.{new_refusal};
+ghost use Rattle.history.specs.Model.{fresh, place, resize, undo, redo};
+ghost use Rattle.editor.specs.Editing.{lent, Forms, PastKept, Stands, Changes};
 
-use array::{Cell, CellRow, Shape};
+use array::{Cell, CellRow};
 use blocks::build_forms;
 use field::{Field, Symbol};
 use history::{ChangeRecord, History};
 use refusal::Refusal;
 
 // It holds nothing of the buffers, so that a copy of it speaks of the same ones.
-#[derive(Clone, Copy)]
+#[derive(Clone, Copy, PartialEq, Eq, Debug)]
 pub struct Editor<F> {
     field: F,
     history: History,
 }
 
-impl<F: Field + Drop> Editor<F> {
+impl<F: Field> Editor<F> {
     // An array of rows x columns empty cells at a circulant size, with no changes yet.
     // Refuses with Buffer, Size, then Shape; the buffers are then as they were.
     pub fn new(
@@ -34,6 +34,8 @@ impl<F: Field + Drop> Editor<F> {
         blocks: &mut [Symbol],
         records: &[ChangeRecord],
     ) -> Result<Self, Refusal>
+    where
+        F: Drop,
         ensures says { let n = lent (length cells.old) (length blocks.old) (length records.now) in
             result_err result ≡ new_refusal (F.Field.meaning field).q n size rows columns }
         ensures does { let was = cells.old in
@@ -56,8 +58,9 @@ impl<F: Field + Drop> Editor<F> {
             blocks.len(),
             records.len(),
         )?;
-        rebuild(&field, &history.shape(), cells, blocks);
-        Ok(Editor { field, history })
+        let editor = Editor { field, history };
+        editor.rebuild(cells, blocks)?;
+        Ok(editor)
     }
 
     // Puts a cell at a place of the array. The changes that were undone are forgotten.
@@ -71,26 +74,16 @@ impl<F: Field + Drop> Editor<F> {
         column: usize,
         cell: &Cell,
     ) -> Result<(), Refusal>
-        ensures says { let before = state_of self.old.history cells.old records.old in
-            let m = F.Field.meaning self.old.field in
-            result_err result ≡ place_refusal m.q (counts before) (lengths before (length blocks.old)) row column cell.now.row }
-        ensures does { let before = state_of self.old.history cells.old records.old in
+        ensures change { let before = state_of self.old.history cells.old records.old in
             let after = state_of self.new.history cells.new records.new in
-            let m = F.Field.meaning self.old.field in
-            Made m before (placed before row column cell.now.row) after blocks.old blocks.new result }
-        ensures model { let before = state_of self.old.history cells.old records.old in
-            let after = state_of self.new.history cells.new records.new in
-            let m = F.Field.meaning self.old.field in
-            ((k : Model) → Stands m k before blocks.old →
-            Follows m k (lengths before (length blocks.old)) (place row column cell.now.row) result after blocks.new) }
+            Changes (F.Field.meaning self.old.field) before after blocks.old blocks.new (place row column cell.now.row) result }
         ensures same { self.new.field ≡ self.old.field }
         ensures shape { self.new.history.shape ≡ self.old.history.shape }
     {
         let order = self.field.order();
         self.history
             .place(order, cells, blocks.len(), records, row, column, cell)?;
-        rebuild(&self.field, &self.history.shape(), cells, blocks);
-        Ok(())
+        self.rebuild(cells, blocks)
     }
 
     // Takes another circulant size; the cells stay. The changes that were undone are forgotten.
@@ -102,25 +95,15 @@ impl<F: Field + Drop> Editor<F> {
         records: &mut [ChangeRecord],
         size: usize,
     ) -> Result<(), Refusal>
-        ensures says { let before = state_of self.old.history cells.now records.old in
-            let m = F.Field.meaning self.old.field in
-            result_err result ≡ resize_refusal m.q (counts before) (lengths before (length blocks.old)) size }
-        ensures does { let before = state_of self.old.history cells.now records.old in
+        ensures change { let before = state_of self.old.history cells.now records.old in
             let after = state_of self.new.history cells.now records.new in
-            let m = F.Field.meaning self.old.field in
-            Made m before (resized before size) after blocks.old blocks.new result }
-        ensures model { let before = state_of self.old.history cells.now records.old in
-            let after = state_of self.new.history cells.now records.new in
-            let m = F.Field.meaning self.old.field in
-            ((k : Model) → Stands m k before blocks.old →
-            Follows m k (lengths before (length blocks.old)) (resize size) result after blocks.new) }
+            Changes (F.Field.meaning self.old.field) before after blocks.old blocks.new (resize size) result }
         ensures same { self.new.field ≡ self.old.field }
     {
         let order = self.field.order();
         self.history
             .resize(order, cells, blocks.len(), records, size)?;
-        rebuild(&self.field, &self.history.shape(), cells, blocks);
-        Ok(())
+        self.rebuild(cells, blocks)
     }
 
     // Undoes the last change in force.
@@ -131,24 +114,14 @@ impl<F: Field + Drop> Editor<F> {
         blocks: &mut [Symbol],
         records: &[ChangeRecord],
     ) -> Result<(), Refusal>
-        ensures says { let before = state_of self.old.history cells.old records.now in
-            let m = F.Field.meaning self.old.field in
-            result_err result ≡ undo_refusal (counts before) (lengths before (length blocks.old)) (undo_fits m.q before) }
-        ensures does { let before = state_of self.old.history cells.old records.now in
+        ensures change { let before = state_of self.old.history cells.old records.now in
             let after = state_of self.new.history cells.new records.now in
-            let m = F.Field.meaning self.old.field in
-            Made m before (undone before) after blocks.old blocks.new result }
-        ensures model { let before = state_of self.old.history cells.old records.now in
-            let after = state_of self.new.history cells.new records.now in
-            let m = F.Field.meaning self.old.field in
-            ((k : Model) → Stands m k before blocks.old →
-            Follows m k (lengths before (length blocks.old)) undo result after blocks.new) }
+            Changes (F.Field.meaning self.old.field) before after blocks.old blocks.new undo result }
         ensures same { self.new.field ≡ self.old.field }
     {
         let order = self.field.order();
         self.history.undo(order, cells, blocks.len(), records)?;
-        rebuild(&self.field, &self.history.shape(), cells, blocks);
-        Ok(())
+        self.rebuild(cells, blocks)
     }
 
     // Redoes the first change that is not in force.
@@ -159,24 +132,25 @@ impl<F: Field + Drop> Editor<F> {
         blocks: &mut [Symbol],
         records: &[ChangeRecord],
     ) -> Result<(), Refusal>
-        ensures says { let before = state_of self.old.history cells.old records.now in
-            let m = F.Field.meaning self.old.field in
-            result_err result ≡ redo_refusal (counts before) (lengths before (length blocks.old)) (redo_fits m.q before) }
-        ensures does { let before = state_of self.old.history cells.old records.now in
+        ensures change { let before = state_of self.old.history cells.old records.now in
             let after = state_of self.new.history cells.new records.now in
-            let m = F.Field.meaning self.old.field in
-            Made m before (redone before) after blocks.old blocks.new result }
-        ensures model { let before = state_of self.old.history cells.old records.now in
-            let after = state_of self.new.history cells.new records.now in
-            let m = F.Field.meaning self.old.field in
-            ((k : Model) → Stands m k before blocks.old →
-            Follows m k (lengths before (length blocks.old)) redo result after blocks.new) }
+            Changes (F.Field.meaning self.old.field) before after blocks.old blocks.new redo result }
         ensures same { self.new.field ≡ self.old.field }
     {
         let order = self.field.order();
         self.history.redo(order, cells, blocks.len(), records)?;
-        rebuild(&self.field, &self.history.shape(), cells, blocks);
-        Ok(())
+        self.rebuild(cells, blocks)
+    }
+
+    // Builds the echelon forms of the array. Refuses with Buffer, and writes nothing, where a buffer is too short.
+    fn rebuild(&self, cells: &[CellRow], blocks: &mut [Symbol]) -> Result<(), Refusal>
+        ensures { let s = self.now.history.shape in
+            MatchResult result
+            (λ _. Holds (F.Field.meaning self.now.field) s.size s.rows s.columns cells.now blocks.new
+            × ((i : ℕ) → s.rows * s.columns * s.size ≤ i → slice_index blocks.new i ≡ slice_index blocks.old i))
+            (λ _. 512 ≤ length cells.now → length blocks.old < 16384) }
+    {
+        build_forms(&self.field, &self.history.shape(), cells, blocks)
     }
 }
 
@@ -193,16 +167,4 @@ impl<F> Editor<F> {
     {
         &self.history
     }
-}
-
-// The echelon forms of the array, in buffers that are long enough.
-fn rebuild<F: Field>(f: &F, shape: &Shape, cells: &[CellRow], blocks: &mut [Symbol])
-    requires cells { 512 ≤ length cells.now }
-    requires room { 16384 ≤ length blocks.old }
-    ensures forms { let s = shape.now in
-        Holds (F.Field.meaning f.now) s.size s.rows s.columns cells.now blocks.new }
-    ensures past { let s = shape.now in
-        ((i : ℕ) → s.rows * s.columns * s.size ≤ i → slice_index blocks.new i ≡ slice_index blocks.old i) }
-{
-    let _ = build_forms(f, shape, cells, blocks);
 }

@@ -10,7 +10,8 @@ ghost use Rattle.coder.specs.Encoding.{encoded, encode_refusal};
 ghost use Rattle.coder.specs.Recovery.{recovered, Recovers, OneToOne};
 ghost use Rattle.history.specs.declared.plain.ChangeRecord.{ChangeRecord};
 ghost use Rattle.history.specs.Model.{Model};
-ghost use Rattle.editor.specs.Editing.{state_of, Stands};
+ghost use Rattle.history.specs.Histories.{state_of};
+ghost use Rattle.editor.specs.Editing.{Stands};
 
 use super::changes::Editor;
 use array::{Cell, CellRow};
@@ -20,7 +21,7 @@ use field::{Field, Symbol};
 use refusal::Refusal;
 
 // The parameters of the code that an editor holds.
-#[derive(Clone, Copy)]
+#[derive(Clone, Copy, PartialEq, Eq, Debug)]
 pub struct Parameters {
     pub size: usize,
     pub rows: usize,

@@ -12,7 +12,7 @@ use Rattle.history.specs.declared.plain.Lengths.{Lengths}
 use Rattle.history.specs.Refusals.{Counts, place_refusal, resize_refusal, undo_refusal, redo_refusal}
 use Rattle.history.specs.States.{State, counts, lengths, placed, resized, undo_fits, undone, redo_fits, redone}
 use Rattle.history.specs.Model.{Model, fresh, Request, place, resize, undo, redo, model_counts, answer, accepted, unless_refused}
-use Rattle.history.specs.Standing.{StandsFor, Kept}
+use Rattle.history.specs.Standing.{StandsFor, Kept, refusal_of, state_after, Serves}
 use Rattle.history.proofs.RefusalsFacts.{place_accepted, resize_accepted, undo_accepted, redo_accepted, undo_fitting, redo_fitting}
 use Rattle.history.proofs.Drawings.{place_below}
 use Rattle.history.proofs.StandingKept.{placed_stands, resized_stands, undo_fits_known, undone_stands, redo_fits_known, redone_stands}
@@ -36,7 +36,7 @@ counts_same : (q : ℕ) (m : Model) (s : State) → StandsFor q m s → counts s
 counts_same q m s h = let a = h.rows in let b = h.columns in let c = h.count in let d = h.in_force in cc
 
 module _ (q blocks : ℕ) (s after : State) (r : Result (Unit {0}) Refusal) where
-  pub place_kept : (i j : ℕ) (row : CellRow) → sound row ≡ true
+  place_kept : (i j : ℕ) (row : CellRow) → sound row ≡ true
       → result_err r ≡ place_refusal q (counts s) (lengths s blocks) i j row
       → MatchResult r (λ _. after ≡ placed s i j row) (λ _. after ≡ s)
       → (m : Model) → StandsFor q m s → Kept q m (lengths s blocks) (place i j row) r after
@@ -49,7 +49,7 @@ module _ (q blocks : ℕ) (s after : State) (r : Result (Unit {0}) Refusal) wher
       placed_stands q m s h i j row p.0 p.1 (and_from (sound row) (below q (terms_of row)) keeps p.2) p.3)
       r says does
 
-  pub resize_kept : (e : ℕ)
+  resize_kept : (e : ℕ)
       → result_err r ≡ resize_refusal q (counts s) (lengths s blocks) e
       → MatchResult r (λ _. after ≡ resized s e) (λ _. after ≡ s)
       → (m : Model) → StandsFor q m s → Kept q m (lengths s blocks) (resize e) r after
@@ -62,7 +62,7 @@ module _ (q blocks : ℕ) (s after : State) (r : Result (Unit {0}) Refusal) wher
       resized_stands q m s h e p.0 p.1 p.2)
       r says does
 
-  pub undo_kept : result_err r ≡ undo_refusal (counts s) (lengths s blocks) (undo_fits q s)
+  undo_kept : result_err r ≡ undo_refusal (counts s) (lengths s blocks) (undo_fits q s)
       → MatchResult r (λ _. after ≡ undone s) (λ _. after ≡ s)
       → (m : Model) → StandsFor q m s → Kept q m (lengths s blocks) undo r after
   undo_kept says does m h =
@@ -72,7 +72,7 @@ module _ (q blocks : ℕ) (s after : State) (r : Result (Unit {0}) Refusal) wher
       (λ e. undone_stands q m s h (undo_accepted (counts s) n (undo_fits q s) e))
       r says does
 
-  pub redo_kept : result_err r ≡ redo_refusal (counts s) (lengths s blocks) (redo_fits q s)
+  redo_kept : result_err r ≡ redo_refusal (counts s) (lengths s blocks) (redo_fits q s)
       → MatchResult r (λ _. after ≡ redone s) (λ _. after ≡ s)
       → (m : Model) → StandsFor q m s → Kept q m (lengths s blocks) redo r after
   redo_kept says does m h =
@@ -81,6 +81,21 @@ module _ (q blocks : ℕ) (s after : State) (r : Result (Unit {0}) Refusal) wher
       (redo_fitting (counts s) n (redo_fits q s) (redo_fits_known q m s h) ∙ ap (λ (k : Counts). redo_refusal k n true) (counts_same q m s h))
       (λ e. redone_stands q m s h (redo_accepted (counts s) n (redo_fits q s) e))
       r says does
+
+  -- the cell of a request is a cell's row
+  abbrev pub HasCell : Request → Type 0
+  HasCell (place i j row) = sound row ≡ true
+  HasCell (resize e) = Unit {0}
+  HasCell undo = Unit {0}
+  HasCell redo = Unit {0}
+
+  -- a call that answers by its rules and makes the state that is wanted keeps the models, too
+  pub serves : (a : Request) → HasCell a → result_err r ≡ refusal_of q s (lengths s blocks) a
+      → MatchResult r (λ _. after ≡ state_after s a) (λ _. after ≡ s) → Serves q s after blocks a r
+  serves (place i j row) cell says does = record { says = says; does = does; model = place_kept i j row cell says does }
+  serves (resize e) cell says does = record { says = says; does = does; model = resize_kept e says does }
+  serves undo cell says does = record { says = says; does = does; model = undo_kept says does }
+  serves redo cell says does = record { says = says; does = does; model = redo_kept says does }
 
 -- a new history stands for the model with no changes, whatever the record buffer holds
 pub fresh_stands : (q e rows columns : ℕ) (s : State) (cells : List CellRow)

@@ -11,11 +11,9 @@ use Rattle.history.specs.Refusals.{Counts, roomy, new_refusal, place_refusal, re
 
 module _ (q : ℕ) (n : Lengths) (e rows columns : ℕ) (h : new_refusal q n e rows columns ≡ None) where
   pub new_lawful : (size_lawful q e ≡ true) × (shape_lawful e rows columns ≡ true)
-  unfolding new_refusal
   new_lawful = grind (arith, nat_tests)
 
   bounds : (rows ≤ 8) × (columns ≤ 64) × (512 ≤ n.cells)
-  unfolding new_refusal
   bounds = grind (arith, nat_tests)
 
   pub new_long : rows * columns ≤ n.cells
@@ -23,45 +21,35 @@ module _ (q : ℕ) (n : Lengths) (e rows columns : ℕ) (h : new_refusal q n e r
 
 pub place_accepted : (q : ℕ) (k : Counts) (n : Lengths) (i j : ℕ) (row : CellRow) → place_refusal q k n i j row ≡ None
     → (i < k.rows) × (j < k.columns) × (below q (terms_of row) ≡ true) × (k.in_force < n.records)
-unfolding place_refusal
 place_accepted q k n i j row h = grind (arith, nat_tests)
 
 pub resize_accepted : (q : ℕ) (k : Counts) (n : Lengths) (e : ℕ) → resize_refusal q k n e ≡ None
     → (size_lawful q e ≡ true) × (shape_lawful e k.rows k.columns ≡ true) × (k.in_force < n.records)
-unfolding resize_refusal
 resize_accepted q k n e h = grind (arith, nat_tests)
 
 pub undo_accepted : (k : Counts) (n : Lengths) (fits : Bool) → undo_refusal k n fits ≡ None → 0 < k.in_force
-unfolding undo_refusal
 undo_accepted k n fits h = grind (arith, nat_tests)
 
 pub redo_accepted : (k : Counts) (n : Lengths) (fits : Bool) → redo_refusal k n fits ≡ None → k.in_force < k.count
-unfolding redo_refusal
 redo_accepted k n fits h = grind (arith, nat_tests)
 
 -- whether the record fits matters only where there is one
 pub undo_fitting : (k : Counts) (n : Lengths) (fits : Bool) → (0 < k.in_force → fits ≡ true) → undo_refusal k n fits ≡ undo_refusal k n true
-unfolding undo_refusal
 undo_fitting k n fits h = grind (arith, nat_tests)
 
 pub redo_fitting : (k : Counts) (n : Lengths) (fits : Bool) → (k.in_force < k.count → fits ≡ true) → redo_refusal k n fits ≡ redo_refusal k n true
-unfolding redo_refusal
 redo_fitting k n fits h = grind (arith, nat_tests)
 
 -- a buffer that is too short comes before every other refusal
 pub place_short : (q : ℕ) (k : Counts) (n : Lengths) (i j : ℕ) (row : CellRow) → roomy n k.count ≡ false
     → place_refusal q k n i j row ≡ Some Buffer
-unfolding place_refusal
 place_short q k n i j row h = grind (arith, nat_tests)
 
 pub resize_short : (q : ℕ) (k : Counts) (n : Lengths) (e : ℕ) → roomy n k.count ≡ false → resize_refusal q k n e ≡ Some Buffer
-unfolding resize_refusal
 resize_short q k n e h = grind (arith, nat_tests)
 
 pub undo_short : (k : Counts) (n : Lengths) (fits : Bool) → roomy n k.count ≡ false → undo_refusal k n fits ≡ Some Buffer
-unfolding undo_refusal
 undo_short k n fits h = grind (arith, nat_tests)
 
 pub redo_short : (k : Counts) (n : Lengths) (fits : Bool) → roomy n k.count ≡ false → redo_refusal k n fits ≡ Some Buffer
-unfolding redo_refusal
 redo_short k n fits h = grind (arith, nat_tests)

@@ -144,7 +144,6 @@ module _ (q rows columns : ℕ) (d : Drawing) (size : ℕ) (cells : List CellRow
   puts_back : (x : Change) → ChangeLawful q rows columns x → DrawingLawful q rows columns d
       → size ≡ (changed d x).size → Shows rows columns cells (changed d x)
       → Puts q rows columns (record_of d x) (record_of d x).cell_before (record_of d x).size_before size cells d
-  unfolding record_fits
   puts_back (places i j row) c l e h =
       let p = and_parts (sound (d.cell i j)) (below q (terms_of (d.cell i j))) (l.cells i j) in
       let n = normal_sound (d.cell i j) p.0 in
@@ -161,7 +160,6 @@ module _ (q rows columns : ℕ) (d : Drawing) (size : ℕ) (cells : List CellRow
   -- and takes the drawing on to the one after it
   puts_on : (x : Change) → ChangeLawful q rows columns x → size ≡ d.size → Shows rows columns cells d
       → Puts q rows columns (record_of d x) (record_of d x).cell_after (record_of d x).size_after size cells (changed d x)
-  unfolding record_fits
   puts_on (places i j row) c e h =
       let p = and_parts (sound row) (below q (terms_of row)) c.2 in
       let n = normal_sound row p.0 in

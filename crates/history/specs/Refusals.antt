@@ -27,11 +27,11 @@ abbrev pub inside : ℕ → ℕ → ℕ → ℕ → Bool
 inside rows columns i j = nat_lt i rows && nat_lt j columns
 
 -- a new history of an array of rows x columns cells at the size e
-unfoldable pub new_refusal : ℕ → Lengths → ℕ → ℕ → ℕ → Option Refusal
+abbrev pub new_refusal : ℕ → Lengths → ℕ → ℕ → ℕ → Option Refusal
 new_refusal q n e rows columns = unless (roomy n 0) Buffer (shape_refusal q e rows columns)
 
 -- a cell's row put at row i and column j
-unfoldable pub place_refusal : ℕ → Counts → Lengths → ℕ → ℕ → CellRow → Option Refusal
+abbrev pub place_refusal : ℕ → Counts → Lengths → ℕ → ℕ → CellRow → Option Refusal
 place_refusal q k n i j row =
     unless (roomy n k.count) Buffer
     (unless (inside k.rows k.columns i j) Place
@@ -39,7 +39,7 @@ place_refusal q k n i j row =
     (unless (spare n k.in_force) Full None)))
 
 -- the circulant size e taken
-unfoldable pub resize_refusal : ℕ → Counts → Lengths → ℕ → Option Refusal
+abbrev pub resize_refusal : ℕ → Counts → Lengths → ℕ → Option Refusal
 resize_refusal q k n e =
     unless (roomy n k.count) Buffer
     (unless (size_lawful q e) Size
@@ -47,11 +47,11 @@ resize_refusal q k n e =
     (unless (spare n k.in_force) Full None)))
 
 -- the last change in force undone, where `fits` says that its record fits the array
-unfoldable pub undo_refusal : Counts → Lengths → Bool → Option Refusal
+abbrev pub undo_refusal : Counts → Lengths → Bool → Option Refusal
 undo_refusal k n fits =
     unless (roomy n k.count) Buffer (unless (nat_lt 0 k.in_force) Nothing (unless fits Record None))
 
 -- the first change that is not in force redone
-unfoldable pub redo_refusal : Counts → Lengths → Bool → Option Refusal
+abbrev pub redo_refusal : Counts → Lengths → Bool → Option Refusal
 redo_refusal k n fits =
     unless (roomy n k.count) Buffer (unless (nat_lt k.in_force k.count) Nothing (unless fits Record None))

@@ -1,5 +1,5 @@
 -- What it means that a state in the buffers stands for a reference model. It speaks of the used places of the buffers only.
-use Rattle.std.specs.Prelude.{◌≡◌, ℕ, ◌*◌, ◌<◌, ◌≤◌, Bool, true, ◌&&◌, length, Result}
+use Rattle.std.specs.Prelude.{◌≡◌, ℕ, ◌*◌, ◌<◌, ◌≤◌, Bool, true, ◌&&◌, length, Option, Result, MatchResult}
 use Rattle.std.specs.List.{AllByRecursion}
 use Rattle.std.specs.Result.{result_err}
 use Rattle.refusal.specs.declared.Refusal.{Refusal}
@@ -9,8 +9,9 @@ use Rattle.array.specs.Cells.{sound, below, terms_of}
 use Rattle.array.specs.Shapes.{size_lawful, shape_lawful}
 use Rattle.history.specs.declared.plain.ChangeRecord.{ChangeRecord}
 use Rattle.history.specs.declared.plain.Lengths.{Lengths}
-use Rattle.history.specs.States.{State, place_record, resize_record, record_at}
-use Rattle.history.specs.Model.{Drawing, Change, places, resizes, Model, change_at, drawing, shown, Request, answer, step}
+use Rattle.history.specs.Refusals.{place_refusal, resize_refusal, undo_refusal, redo_refusal}
+use Rattle.history.specs.States.{State, counts, lengths, placed, resized, undo_fits, undone, redo_fits, redone, place_record, resize_record, record_at}
+use Rattle.history.specs.Model.{Drawing, Change, places, resizes, Model, change_at, drawing, shown, Request, place, resize, undo, redo, answer, step}
 
 -- the row of a cell, with coefficients below q
 abbrev pub cell_lawful : ℕ → CellRow → Bool
@@ -56,3 +57,23 @@ pub record StandsFor (q : ℕ) (m : Model) (s : State) : Type 0 where
 pub record Kept (q : ℕ) (m : Model) (n : Lengths) (a : Request) (r : Result (Unit {0}) Refusal) (after : State) : Type 0 where
   pub says : result_err r ≡ answer m n a
   pub stands : StandsFor q (step m n a) after
+
+-- the refusal of a request in a state, if any, and the state where it is accepted
+abbrev pub refusal_of : ℕ → State → Lengths → Request → Option Refusal
+refusal_of q s n (place i j row) = place_refusal q (counts s) n i j row
+refusal_of q s n (resize e) = resize_refusal q (counts s) n e
+refusal_of q s n undo = undo_refusal (counts s) n (undo_fits q s)
+refusal_of q s n redo = redo_refusal (counts s) n (redo_fits q s)
+
+abbrev pub state_after : State → Request → State
+state_after s (place i j row) = placed s i j row
+state_after s (resize e) = resized s e
+state_after s undo = undone s
+state_after s redo = redone s
+
+-- What a call does with a block buffer of so many symbols: its answer, what it makes of the state in the buffers,
+-- and that it keeps each model that the state before stands for.
+pub record Serves (q : ℕ) (before after : State) (blocks : ℕ) (a : Request) (r : Result (Unit {0}) Refusal) : Type 0 where
+  pub says : result_err r ≡ refusal_of q before (lengths before blocks) a
+  pub does : MatchResult r (λ _. after ≡ state_after before a) (λ _. after ≡ before)
+  pub model : (m : Model) → StandsFor q m before → Kept q m (lengths before blocks) a r after

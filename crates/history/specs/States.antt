@@ -30,9 +30,6 @@ state shape count in_force cells records = record {
   records = records;
 }
 
-abbrev pub counts_of : Shape → ℕ → ℕ → Counts
-counts_of shape count in_force = record { rows = shape.rows; columns = shape.columns; count = count; in_force = in_force }
-
 abbrev pub counts : State → Counts
 counts s = record { rows = s.rows; columns = s.columns; count = s.count; in_force = s.in_force }
 
@@ -83,7 +80,7 @@ resized s e = record {
 
 -- a record fits where its kind is 1, its place is in the array and the cell to put in has coefficients below q,
 -- or its kind is 2 and the size to take keeps the rules
-unfoldable pub record_fits : ℕ → ℕ → ℕ → ChangeRecord → CellRow → ℕ → Bool
+abbrev pub record_fits : ℕ → ℕ → ℕ → ChangeRecord → CellRow → ℕ → Bool
 record_fits q rows columns r cell e =
     cond (r.kind == 1)
     (inside rows columns r.row r.column && below q (terms_of cell))

@@ -3,6 +3,7 @@
 
 #![tactic(auto)]
 
+mod change;
 mod edit;
 mod plain;
 mod rules;

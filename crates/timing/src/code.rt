@@ -22,12 +22,7 @@ pub(crate) struct Code {
 
 impl Code {
     // The field goes by a number: 0 for the table field, r for the shift field of degree r.
-    pub(crate) fn new(
-        field: u8,
-        size: usize,
-        rows: usize,
-        columns: usize,
-    ) -> Result<Self, Refusal>
+    pub(crate) fn new(field: u8, size: usize, rows: usize, columns: usize) -> Result<Self, Refusal>
         ensures field { IfOk result (λ c. meaning_of c.field ≡ field_of field) }
         ensures shape { IfOk result (λ c. (c.shape.size ≡ size) × (c.shape.rows ≡ rows) × (c.shape.columns ≡ columns)) }
     {

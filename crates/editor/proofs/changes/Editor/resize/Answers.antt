@@ -1,32 +1,9 @@
-use Rattle.std.proofs.Common.{◌≡◌, ℕ, length, None, Ok, refl, subst, arith}
-use Rattle.history.specs.Refusals.{resize_refusal}
-use Rattle.history.specs.States.{counts, lengths}
+use Rattle.std.proofs.Common.{refl}
 use Rattle.history.specs.Model.{resize}
-use Rattle.editor.specs.Editing.{state_of}
-use Rattle.editor.proofs.Rooms.{resize_room}
-use Rattle.editor.proofs.Followed.{forms_built, followed}
+use Rattle.editor.proofs.Followed.{made}
 use Rattle.editor.proofs.changes.Editor.resize.Goals as goal
 
-pub rebuild-requires : goal.rebuild-requires
-rebuild-requires g c =
-    let before = state_of c.args.self.now.history c.args.cells.now c.args.records.now in
-    let n = lengths before (length c.args.blocks.now) in
-    let long = resize_room c.order-order.result (counts before) n c.args.size c.in_ok-resize.ensures.says in
-    record { cells = omega (arith, long.0); room = long.1 }
-
-pub returns : goal.returns
-returns g c =
-    let f = g.F.Field.meaning c.args.self.now.field in
-    let before = state_of c.args.self.now.history c.args.cells.now c.args.records.now in
-    let after = state_of c.resize.new.self c.args.cells.now c.resize.new.records in
-    let n = lengths before (length c.args.blocks.now) in
-    let done = c.in_ok-resize.ensures in
-    let built = forms_built f c.shape.result c.resize.new.self c.args.cells.now c.resize.new.records c.args.blocks.now c.rebuild.new.blocks c.shape.ensures
-    (c.rebuild.ensures.forms, c.rebuild.ensures.past) in
-    record {
-      says = subst (λ (q : ℕ). None ≡ resize_refusal q (counts before) n c.args.size) c.order-order.ensures done.says;
-      does = (done.does, built.0, built.1);
-      model = followed f c.order-order.result c.order-order.ensures before after n (resize c.args.size) (Ok tt) done.model c.args.blocks.now
-          c.rebuild.new.blocks built.0;
-      same = refl;
-    }
+pub returns-clause-change : goal.returns-clause-change
+returns-clause-change g c =
+    made (g.F.Field.meaning c.args.self.now.field) c.order-order.result c.order-order.ensures _ _ (resize c.args.size)
+    c.args.blocks.now c.rebuild.new.blocks c.rebuild.result c.in_ok-resize.ensures refl c.rebuild.ensures

@@ -1,42 +1,31 @@
-use Rattle.std.proofs.Common.{Err, sym, arith, rules}
+use Rattle.std.proofs.Common.{arith, rules}
 use Rattle.std.proofs.lemmas.Bool.Decides.{nat_tests}
+use Rattle.std.proofs.lemmas.Grind.{common_steps}
 use Rattle.std.proofs.lemmas.Result.{err_from_is_err_and}
-use Rattle.history.specs.Refusals.{undo_refusal}
-use Rattle.history.specs.States.{state}
-use Rattle.history.proofs.CallsKept.{undo_kept}
+use Rattle.history.specs.Model.{undo}
+use Rattle.history.proofs.CallsKept.{serves}
+use Rattle.history.proofs.EditsMade.{edit_fitting}
 use Rattle.history.proofs.edit.History.undo.Goals as goal
 
-pub returns-in_err-k : goal.returns-in_err-k
-returns-in_err-k c =
+pub returns-in_err-check : goal.returns-in_err-check
+returns-in_err-check c =
     let p = err_from_is_err_and c.from_residual.result c.from_residual.ensures.1 in
-    let h = c.in_err-k.ensures in
-    let held = c.args.self.now in
-    let s = state held.shape held.count held.in_force c.args.cells.now c.args.records.now in
-    rw (p.1, p.2) (record {
-      says = sym (h _);
-      does = search rules;
-      model = undo_kept c.args.order c.args.blocks s s (Err c.in_err-k.field-0.0) (sym (h _)) (search rules);
-    })
+    rw (p.1, p.2) (serves c.args.order c.args.blocks _ _ _ undo tt (grind (arith, nat_tests)) (search rules))
+
+pub returns-in_err-change : goal.returns-in_err-change
+returns-in_err-change c =
+    let p = err_from_is_err_and c.from_residual-in_err-change.result c.from_residual-in_err-change.ensures.1 in
+    rw (p.1, p.2) (serves c.args.order c.args.blocks _ _ _ undo tt (grind (arith, common_steps, nat_tests)) (search rules))
+
+pub returns-in_err-undoing : goal.returns-in_err-undoing
+returns-in_err-undoing c =
+    let p = err_from_is_err_and c.from_residual-in_err-undoing.result c.from_residual-in_err-undoing.ensures.1 in
+    rw (p.1, p.2) (serves c.args.order c.args.blocks _ _ _ undo tt (grind (arith, common_steps, nat_tests)) (search rules))
 
 pub returns-in_err-self : goal.returns-in_err-self
-unfolding undo_refusal
 returns-in_err-self c =
     let p = err_from_is_err_and c.from_residual-in_err-self.result c.from_residual-in_err-self.ensures.1 in
-    let k = c.in_ok-k.ensures in
-    let h = c.in_err-self.ensures in
-    rw (p.1, p.2) (record {
-      says = grind (arith, nat_tests);
-      does = search rules;
-      model = undo_kept c.args.order c.args.blocks _ _ _ (grind (arith, nat_tests)) (search rules);
-    })
+    rw (p.1, p.2) (serves c.args.order c.args.blocks _ _ _ undo tt (grind (arith, common_steps, nat_tests, edit_fitting)) (search rules))
 
 pub returns : goal.returns
-unfolding undo_refusal
-returns c =
-    let k = c.in_ok-k.ensures in
-    let h = c.in_ok-self.ensures in
-    record {
-      says = grind (arith, nat_tests);
-      does = cc;
-      model = undo_kept c.args.order c.args.blocks _ _ _ (grind (arith, nat_tests)) (cc);
-    }
+returns c = serves c.args.order c.args.blocks _ _ _ undo tt (grind (arith, common_steps, nat_tests, edit_fitting)) (grind (arith, common_steps))
