@@ -12,11 +12,11 @@ use super::tables::{logarithm_of, power_at};
 #[derive(Clone, Copy)]
 pub struct TableField;
 
-impl TableField {
-    // The same field, multiplied by shifts.
-    pub fn as_shift(&self) -> ShiftField
-        ensures { Alike (shift_field 9) (shift_field result.degree) }
-    {
+// The same field, multiplied by shifts.
+impl From<TableField> for ShiftField {
+    ghost from_gives = { λ _ f. Alike (shift_field 9) (shift_field f.degree) };
+
+    fn from(_: TableField) -> Self {
         ShiftField::of_degree(9)
     }
 }

@@ -28,10 +28,3 @@ loop-preserved c =
           ∙ inverse_next r f.degree_low f.degree_high c.args.a c.requires k c.multiply-square.result c.loop.p
           c.loop.auto.counter s c.loop.invariant.3,
     )
-
-pub returns : goal.returns
-returns c =
-    let f = c.args.self.now in
-    let lo : 1 < f.degree = f.degree_low in
-    let e : c.loop.counter ≡ f.degree = omega (arith, c.loop.auto.counter-end (omega arith)) in
-    c.loop.invariant.3 ∙ ap (λ (n : ℕ). raised f.degree c.args.a (2 ^ n - 2)) e
