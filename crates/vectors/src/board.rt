@@ -1,34 +1,25 @@
-// An array with a buffer of its own, of as many cells as wanted up to 600.
-ghost use Rattle.std.specs.Prelude.{◌≤◌};
-
-use super::lines::accepted;
+// An array with a buffer of its own.
 use array::{Cell, CellRow, Shape, Term};
 use code::Verdict;
 use field::{Field, Symbol};
 use refusal::Refusal;
+use std::alloc::{AllocError, Global};
 
-#[derive(Clone, Copy)]
+#[derive(Drop)]
 pub struct Board {
     order: u16,
     shape: Shape,
-    cells: [CellRow; 600],
-    count: usize,
-    ghost fits: { count ≤ 600 },
+    cells: Vec<CellRow>,
 }
 
 impl Board {
-    // An array of empty cells, in a buffer of `count` cells.
-    pub fn new(order: u16, shape: Shape, count: u16) -> Self {
-        Board {
+    // An array of empty cells for a field of `order` symbols, in a buffer of `cells` cells.
+    pub fn new(alloc: Global, order: u16, shape: Shape, cells: usize) -> Result<Self, AllocError> {
+        Ok(Board {
             order,
             shape,
-            cells: [Cell::empty().row(); 600],
-            count: count.min(600) as usize,
-        }
-    }
-
-    pub fn order(&self) -> u16 {
-        self.order
+            cells: vec![in alloc; CellRow::default(); cells]?,
+        })
     }
 
     pub fn shape(&self) -> Shape {
@@ -36,38 +27,19 @@ impl Board {
     }
 
     pub fn place(&mut self, row: usize, column: usize, cell: &Cell) -> Result<(), Refusal> {
-        array::place(
-            &self.shape,
-            self.order,
-            &mut self.cells[0..self.count],
-            row,
-            column,
-            cell,
-        )
+        array::place(&self.shape, self.order, &mut self.cells, row, column, cell)
+    }
+
+    // Places the cell of a list of terms.
+    pub fn put(&mut self, row: usize, column: usize, terms: &[Term]) -> Result<(), Refusal> {
+        self.place(row, column, &Cell::try_from(terms)?)
     }
 
     pub fn show(&self, row: usize, column: usize, cell: &mut Cell) -> Result<(), Refusal> {
-        array::show(&self.shape, &self.cells[0..self.count], row, column, cell)
+        array::show(&self.shape, &self.cells, row, column, cell)
     }
 
     pub fn check<F: Field>(&self, f: &F, word: &[Symbol]) -> Result<Verdict, Refusal> {
-        code::check(f, &self.shape, &self.cells[0..self.count], word)
+        code::check(f, &self.shape, &self.cells, word)
     }
-
-    // Places a list of terms that has to be accepted.
-    pub fn put(&mut self, row: usize, column: usize, terms: &[Term]) -> anyhow::Result<()> {
-        let mut cell = Cell::empty();
-        accepted(cell.fill(terms))?;
-        accepted(self.place(row, column, &cell))
-    }
-}
-
-// An array of a size, rows and columns over a field of `order` symbols, in a buffer of `count` cells.
-pub fn board_of(order: u16, sizes: (usize, usize, usize), count: u16) -> anyhow::Result<Board> {
-    let (size, rows, columns) = sizes;
-    Ok(Board::new(
-        order,
-        accepted(Shape::new(order, size, rows, columns))?,
-        count,
-    ))
 }

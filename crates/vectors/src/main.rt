@@ -14,6 +14,8 @@ mod passing;
 mod places;
 mod shapes;
 mod source;
+mod terms;
+mod trial;
 
 fn print_fields(rt: &HostRuntime) -> anyhow::Result<()> {
     fields::print_fields(rt)?;
@@ -36,12 +38,8 @@ fn print_checks(rt: &HostRuntime) -> anyhow::Result<()> {
     built::print_built(rt)
 }
 
-fn print_all(rt: &HostRuntime) -> anyhow::Result<()> {
-    print_fields(rt)?;
-    print_arrays(rt)?;
-    print_checks(rt)
-}
-
 fn main(rt: HostRuntime) -> anyhow::Result<()> {
-    print_all(&rt)
+    print_fields(&rt)?;
+    print_arrays(&rt)?;
+    print_checks(&rt)
 }

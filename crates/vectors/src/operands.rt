@@ -1,5 +1,5 @@
 // Sums, products and inverses of worked pairs, and the two fields of 512 symbols side by side.
-use super::lines::{answer_of, print_answer, print_numbers, shift_field};
+use super::lines::accepted;
 use field::{Field, ShiftField, TableField};
 
 // A degree and two operands.
@@ -39,18 +39,20 @@ const PAIRS: [(u8, u16, u16); 32] = [
 ];
 
 fn print_pair<F: Field>(rt: &HostRuntime, name: &str, f: &F, a: u16, b: u16) -> anyhow::Result<()> {
-    print_numbers(
-        rt,
-        name,
-        &[f.order(), a, b],
-        &[f.sum(a, b), f.product(a, b), f.inverse(a)],
-    )
+    let q = f.order();
+    println!(rt;
+        "{name} {q} {a} {b}: {} {} {}",
+        f.sum(a, b),
+        f.product(a, b),
+        f.inverse(a)
+    )?;
+    Ok(())
 }
 
 pub fn print_pairs(rt: &HostRuntime) -> anyhow::Result<()> {
     rt.println("== operands: q, a, b: a + b, a x b, 1 / a; an operand of q or more is taken as 0")?;
     for (degree, a, b) in PAIRS {
-        print_pair(rt, "shift", &shift_field(degree)?, a, b)?;
+        print_pair(rt, "shift", &ShiftField::new(degree)?, a, b)?;
     }
     print_pair(rt, "table", &TableField, 256, 2)
 }
@@ -60,12 +62,8 @@ const DEGREES: [u8; 6] = [0, 1, 2, 9, 10, 255];
 pub fn print_degrees(rt: &HostRuntime) -> anyhow::Result<()> {
     rt.println("== degrees of shift fields")?;
     for degree in DEGREES {
-        print_answer(
-            rt,
-            "degree",
-            &[degree as u16],
-            answer_of(ShiftField::new(degree)),
-        )?;
+        let answer = accepted(ShiftField::new(degree));
+        println!(rt; "degree {degree}: {answer}")?;
     }
     Ok(())
 }
@@ -75,21 +73,17 @@ fn differ<F: Field, G: Field>(f: &F, g: &G, a: u16, b: u16) -> bool {
     f.sum(a, b) != g.sum(a, b) || f.product(a, b) != g.product(a, b) || f.inverse(a) != g.inverse(a)
 }
 
-// How many pairs of 0 to 520 they answer differently, as far as 16 bits can say.
-fn count_differences<F: Field, G: Field>(f: &F, g: &G) -> u16 {
-    let mut count: u16 = 0;
-    for a in 0..521 {
-        for b in 0..521 {
-            if differ(f, g, a, b) {
-                count = count.saturating_add(1);
-            }
-        }
-    }
-    count
+// How many pairs of 0 to 520 they answer differently.
+fn count_differences<F: Field, G: Field>(f: &F, g: &G) -> usize {
+    // By a fold: it is not proved at once that the counts fit when `sum` adds them.
+    (0..521u16)
+        .map(|a| (0..521u16).filter(|b| differ(f, g, a, *b)).count())
+        .fold(0, |sum, count| sum.saturating_add(count))
 }
 
 pub fn print_differences(rt: &HostRuntime) -> anyhow::Result<()> {
     rt.println("== table field against shift field of degree 9")?;
-    let count = count_differences(&TableField, &TableField.as_shift());
-    print_numbers(rt, "pairs of 0 to 520 on which they differ", &[], &[count])
+    let count = count_differences(&TableField, &ShiftField::from(TableField));
+    println!(rt; "pairs of 0 to 520 on which they differ: {count}")?;
+    Ok(())
 }

@@ -1,9 +1,9 @@
 // Shapes: which sizes, rows and columns an array may have.
-use super::lines::{answer_of, print_answer};
+use super::lines::accepted;
 use array::Shape;
 
 // q, size, rows, columns
-const SHAPES: [(u16, u16, u16, u16); 34] = [
+const SHAPES: [(u16, usize, usize, usize); 34] = [
     (512, 1, 1, 1),
     (512, 7, 1, 1),
     (512, 73, 1, 1),
@@ -43,8 +43,8 @@ const SHAPES: [(u16, u16, u16, u16); 34] = [
 pub fn print_shapes(rt: &HostRuntime) -> anyhow::Result<()> {
     rt.println("== shapes: q, size, rows, columns")?;
     for (q, size, rows, columns) in SHAPES {
-        let shape = Shape::new(q, size as usize, rows as usize, columns as usize);
-        print_answer(rt, "shape", &[q, size, rows, columns], answer_of(shape))?;
+        let answer = accepted(Shape::new(q, size, rows, columns));
+        println!(rt; "shape {q} {size} {rows} {columns}: {answer}")?;
     }
     Ok(())
 }

@@ -1,7 +1,7 @@
 // A small source of numbers, the same in every run: x becomes 1664525 x + 1013904223 modulo 2^32.
-use super::lines::accepted;
 use array::{Cell, Term};
 use field::Symbol;
+use std::alloc::{AllocError, Global};
 
 #[derive(Drop)]
 pub struct Source {
@@ -25,36 +25,29 @@ impl Source {
         self.below(order.saturating_sub(1)).saturating_add(1)
     }
 
-    // Terms whose shifts rise by 1 to 120.
-    fn fill_terms(&mut self, order: u16, terms: &mut [Term]) {
+    // A cell of `count` terms, whose shifts rise by 1 to 120.
+    pub fn cell(&mut self, alloc: Global, order: u16, count: u16) -> anyhow::Result<Cell> {
         let mut low: u16 = 0;
-        for term in terms.iter_mut() {
-            let shift = low.saturating_add(self.below(120));
-            *term = Term {
-                shift,
-                coefficient: self.nonzero(order),
-            };
-            low = shift.saturating_add(1);
-        }
+        let terms: Vec<Term> = (0..count)
+            .map(|_| {
+                let shift = low.saturating_add(self.below(120));
+                low = shift.saturating_add(1);
+                Term {
+                    shift,
+                    coefficient: self.nonzero(order),
+                }
+            })
+            .collect(alloc)?;
+        Ok(Cell::try_from(terms.as_slice())?)
     }
 
-    // A cell of `count` terms.
-    pub fn cell(&mut self, order: u16, count: u16) -> anyhow::Result<Cell> {
-        let mut space = [Term {
-            shift: 0,
-            coefficient: 0,
-        }; 4];
-        let terms = &mut space[0..count.min(4) as usize];
-        self.fill_terms(order, terms);
-        let mut cell = Cell::empty();
-        accepted(cell.fill(terms))?;
-        Ok(cell)
-    }
-
-    // Symbols of a field of `order` symbols.
-    pub fn fill_word(&mut self, order: u16, word: &mut [Symbol]) {
-        for symbol in word.iter_mut() {
-            *symbol = self.below(order);
-        }
+    // A word of `count` symbols of a field of `order` symbols.
+    pub fn word(
+        &mut self,
+        alloc: Global,
+        order: u16,
+        count: usize,
+    ) -> Result<Vec<Symbol>, AllocError> {
+        (0..count).map(|_| self.below(order)).collect(alloc)
     }
 }
