@@ -34,6 +34,7 @@ impl BlockBuffer<'_> {
         let end = start + places(&self.shape);
         let rows = self.shape.rows();
         let columns = self.shape.columns();
+        // The rank is not needed here.
         let _ = reduce(f, &mut self.symbols[start..end], rows, columns);
     }
 
@@ -47,6 +48,7 @@ impl BlockBuffer<'_> {
             ((i : ℕ) → s.rows * s.columns * s.size ≤ i → slice_index self.new.symbols.now i ≡ slice_index self.old.symbols.now i) }
     {
         self.build_checks(f, cells);
+        // By number: a loop over the blocks, as parts of the buffer that are written, gets no proof.
         for t in 0..self.shape.size() {
             self.reduce_block(f, t);
         }

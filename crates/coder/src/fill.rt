@@ -69,6 +69,7 @@ impl<'a> Matrix<'a> {
             ≡ filled (F.Field.meaning f.now) self.now.rows n (row_major n self.now.symbols.now)
             (λ k. slice_index message.now (first + k)) j) }
     {
+        // No heap is used.
         let mut space = [0; 64];
         let values = &mut space[..self.columns()];
         self.spread_free(message, first, values);

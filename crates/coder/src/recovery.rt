@@ -144,6 +144,7 @@ fn read_message<F: Field>(f: &F, forms: &Forms, table: &Matrix, out: &mut [Symbo
         ++ drop (dimension s.rows s.columns s.size blocks) out.old }
 {
     let shape = forms.shape();
+    // No heap is used: an array has at most 64 columns.
     let mut space = [0; 64];
     let values = &mut space[..shape.columns()];
     let beta = f.inverse(root(f, &shape));

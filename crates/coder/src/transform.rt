@@ -76,6 +76,7 @@ pub(crate) fn synthesize<F: Field>(f: &F, alpha: Symbol, spectra: &Matrix, out: 
     ensures rest { (i : ℕ) → spectra.now.columns * spectra.now.rows ≤ i →
         slice_index out.new i ≡ slice_index out.old i }
 {
+    // No heap is used.
     let mut space = [0; 64];
     let sums = &mut space[..spectra.columns()];
     let mut x = 1;

@@ -83,26 +83,21 @@ fn write_symbols<W: fmt::Write>(
     Ok(())
 }
 
-// The table of sizes, a line for each; the rate to four decimals.
-fn write_sizes<W: fmt::Write>(f: &mut fmt::Formatter<W>, lines: &[SizeLine]) -> fmt::Result {
-    write!(
-        f,
-        "  size  length  dimension    rate  blocks lacking full rank"
-    )?;
-    for line in lines {
-        let size = line.size;
-        let length = line.survey.length;
-        let dimension = line.survey.dimension;
-        let deficient = line.survey.deficient;
+// The rate to four decimals.
+impl fmt::Display for SizeLine {
+    fn fmt<W: fmt::Write>(&self, f: &mut fmt::Formatter<W>) -> fmt::Result {
+        let size = self.size;
+        let length = self.survey.length;
+        let dimension = self.survey.dimension;
+        let deficient = self.survey.deficient;
         let rate = rate_of(dimension, length);
         let whole = rate / 10000;
         let part = rate % 10000;
         write!(
             f,
-            "\n{size:>6}  {length:>6}  {dimension:>9}  {whole}.{part:04}  {deficient:>24}"
-        )?;
+            "{size:>6}  {length:>6}  {dimension:>9}  {whole}.{part:04}  {deficient:>24}"
+        )
     }
-    Ok(())
 }
 
 // Ten thousand times dimension / length, to the nearest whole number; 0 where there is no symbol.
@@ -127,7 +122,16 @@ impl fmt::Display for Answer {
             }
             Answer::Word(word) => write_symbols(f, "word", word.as_slice()),
             Answer::Message(message) => write_symbols(f, "message", message.as_slice()),
-            Answer::Sizes(lines) => write_sizes(f, lines.as_slice()),
+            Answer::Sizes(lines) => {
+                write!(
+                    f,
+                    "  size  length  dimension    rate  blocks lacking full rank"
+                )?;
+                for line in lines {
+                    write!(f, "\n{line}")?;
+                }
+                Ok(())
+            }
             Answer::Size(p) => {
                 let size = p.size;
                 let rows = p.rows;

@@ -12,6 +12,7 @@ pub fn make<'a>(
     name: &'a str,
     words: SplitWhitespace<'a>,
 ) -> Result<Answer, Trouble<'a>> {
+    // A table of functions would say no more than the match.
     match name {
         "field" => choose_field(session, words),
         "new" => start_array(session, words),

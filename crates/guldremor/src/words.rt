@@ -1,4 +1,5 @@
-// The words of a command line: numbers and terms.
+// The words of a command line: numbers and terms. Functions and no FromStr: numbers and terms of std and of the library are read here
+// by the script's own rules, in which a number that is too large counts as the largest.
 ghost use Rattle.std.specs.Prelude.{◌≡◌, ◌+◌, ◌-◌, ◌*◌, ◌^◌, min, true, false, MatchOption, MatchResult};
 ghost use Rattle.guldremor.specs.Words.{numeral, value};
 

@@ -13,6 +13,7 @@ use array::{Cell, CellRow, Shape};
 use refusal::Refusal;
 
 // `count` records are in the record buffer, and the first `in_force` of them are in force.
+// A call is lent the buffers one by one, to read or to write as it needs them: one struct of all three would ask more of its caller.
 #[derive(Clone, Copy, PartialEq, Eq, Debug)]
 pub struct History {
     shape: Shape,

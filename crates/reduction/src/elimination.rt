@@ -38,6 +38,7 @@ impl Matrix<'_> {
             (entries self.old) (entries self.new) result }
     {
         let mut top = 0;
+        // By number: a column is no part of the list.
         for column in 0..self.columns {
             top = self.step(f, top, column);
         }

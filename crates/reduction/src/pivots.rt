@@ -52,6 +52,7 @@ impl Matrix<'_> {
         ensures nulls { SameNull (F.Field.meaning f.now) self.old.rows self.old.columns
             (entries self.old) (entries self.new) }
     {
+        // By number: row `a`, which is added, stands in the list among the rows that are written.
         for i in 0..self.rows {
             if i != a {
                 let by = self.entry(i, column);

@@ -39,6 +39,7 @@ pub enum Refusal {
 }
 
 impl Refusal {
+    // By a name of its own, and no From: which number of a refusal it is would not be said.
     pub fn number(self) -> u8
         ensures { result ≡ number self }
     {
