@@ -1,6 +1,4 @@
 // Words that pass a row of two circulants a and b, since circulants commute: b applied to any u, then a applied to u.
-ghost use Rattle.std.specs.Prelude.{◌<◌, length};
-
 use super::lines::Spaced;
 use super::trial::Trial;
 use array::{Cell, Shape, Term};
@@ -8,12 +6,11 @@ use field::{Field, ShiftField, Symbol, TableField};
 use std::alloc::{AllocError, Global};
 
 // Symbol s of a circulant applied to u: the sum of coefficient times symbol (shift + s) mod e of u.
-fn applied<F: Field>(f: &F, terms: &[Term], u: &[Symbol], s: usize) -> Symbol
-    requires { s < length u.now }
-{
+fn applied<F: Field>(f: &F, terms: &[Term], u: &[Symbol], s: usize) -> Symbol {
     let mut sum = 0;
     for term in terms {
-        let symbol = u[(term.shift as usize + s) % u.len()];
+        let at = (term.shift as usize).saturating_add(s) % u.len().max(1);
+        let symbol = u.get(at).copied().unwrap_or(0);
         sum = f.sum(sum, f.product(term.coefficient, symbol));
     }
     sum
@@ -28,11 +25,8 @@ fn build<F: Field>(
     u: &[Symbol],
 ) -> Result<Vec<Symbol>, AllocError> {
     let mut word = Vec::new(alloc);
-    // In a chain over the numbers it would not be known that each is below the length of u.
     for cell in [b, a] {
-        for s in 0..u.len() {
-            word.push(applied(f, cell.terms(), u, s))?;
-        }
+        word.extend((0..u.len()).map(|s| applied(f, cell.terms(), u, s)))?;
     }
     Ok(word)
 }
