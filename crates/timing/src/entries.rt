@@ -7,7 +7,7 @@ ghost use Rattle.refusal.specs.Number.{number};
 ghost use Rattle.timing.specs.Fields.{field_of};
 ghost use Rattle.timing.specs.Recovery.{Reads};
 
-use super::code::Code;
+use super::timed::Code;
 use array::CellRow;
 use field::Symbol;
 use refusal::Refusal;

@@ -4,7 +4,7 @@
 
 #![tactic(auto)]
 
-mod code;
 mod entries;
+mod timed;
 
 pub use entries::{timing_build, timing_check, timing_encode, timing_recover};
