@@ -10,9 +10,7 @@ pub struct Term {
 
 impl fmt::Display for Term {
     fn fmt<W: fmt::Write>(&self, f: &mut fmt::Formatter<W>) -> fmt::Result {
-        let shift = self.shift;
-        let coefficient = self.coefficient;
-        write!(f, "{shift}:{coefficient}")
+        write!(f, "{}:{}", self.shift, self.coefficient)
     }
 }
 

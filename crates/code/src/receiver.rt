@@ -17,10 +17,7 @@ pub struct FailedCheck {
 
 impl fmt::Display for FailedCheck {
     fn fmt<W: fmt::Write>(&self, f: &mut fmt::Formatter<W>) -> fmt::Result {
-        let row = self.row;
-        let s = self.s;
-        let syndrome = self.syndrome;
-        write!(f, "{row} {s} {syndrome}")
+        write!(f, "{} {} {}", self.row, self.s, self.syndrome)
     }
 }
 

@@ -133,11 +133,11 @@ impl fmt::Display for Answer {
                 Ok(())
             }
             Answer::Size(p) => {
-                let size = p.size;
-                let rows = p.rows;
-                let columns = p.columns;
-                let dimension = p.dimension;
-                write!(f, "size {size} {rows} {columns} {dimension}")
+                write!(
+                    f,
+                    "size {} {} {} {}",
+                    p.size, p.rows, p.columns, p.dimension
+                )
             }
             Answer::Verdict(Ok(())) => write!(f, "passes"),
             Answer::Verdict(Err(failed)) => write!(f, "fails {failed}"),
@@ -149,10 +149,7 @@ impl fmt::Display for Trouble<'_> {
     fn fmt<W: fmt::Write>(&self, f: &mut fmt::Formatter<W>) -> fmt::Result {
         match self {
             Trouble::Refused(refusal) => write!(f, "refused {refusal}"),
-            Trouble::Fails(failed) => {
-                let number = Refusal::Check.number();
-                write!(f, "refused {number} {failed}")
-            }
+            Trouble::Fails(failed) => write!(f, "refused {} {failed}", Refusal::Check.number()),
             Trouble::Word(why, word) => write!(f, "{why}: {word}"),
             Trouble::Line(why) => write!(f, "{why}"),
             Trouble::Memory(_) => write!(f, "no memory"),

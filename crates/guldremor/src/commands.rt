@@ -1,7 +1,7 @@
 // The commands of a script.
 use super::answer::{Answer, Trouble};
 use super::session::Session;
-use super::words::{expect_end, next_number, read_symbol, read_term};
+use super::words::{next_number, numbers, read_symbol, read_term};
 use array::Term;
 use field::{AnyField, ShiftField, Symbol, TableField};
 use std::alloc::Global;
@@ -39,12 +39,11 @@ fn choose_field<'a>(
 ) -> Result<Answer, Trouble<'a>> {
     let field = match words.next() {
         Some("shift") => {
-            let degree = next_number(&mut words)?;
-            expect_end(&mut words)?;
+            let [degree] = numbers::<1>(words)?;
             AnyField::Shift(ShiftField::new(u8::try_from(degree).unwrap_or(u8::MAX))?)
         }
         Some("table") => {
-            expect_end(&mut words)?;
+            let [] = numbers::<0>(words)?;
             AnyField::Table(TableField)
         }
         Some(word) => return Err(Trouble::Word("no such field", word)),
@@ -56,12 +55,9 @@ fn choose_field<'a>(
 // new SIZE ROWS COLUMNS
 fn start_array<'a>(
     session: &mut Session,
-    mut words: SplitWhitespace<'a>,
+    words: SplitWhitespace<'a>,
 ) -> Result<Answer, Trouble<'a>> {
-    let size = next_number(&mut words)?;
-    let rows = next_number(&mut words)?;
-    let columns = next_number(&mut words)?;
-    expect_end(&mut words)?;
+    let [size, rows, columns] = numbers::<3>(words)?;
     session.start(size, rows, columns)?;
     Ok(Answer::Done)
 }
@@ -81,10 +77,9 @@ fn place_cell<'a>(
 // resize SIZE
 fn resize_array<'a>(
     session: &mut Session,
-    mut words: SplitWhitespace<'a>,
+    words: SplitWhitespace<'a>,
 ) -> Result<Answer, Trouble<'a>> {
-    let size = next_number(&mut words)?;
-    expect_end(&mut words)?;
+    let [size] = numbers::<1>(words)?;
     session.resize(size)?;
     Ok(Answer::Done)
 }
@@ -92,9 +87,9 @@ fn resize_array<'a>(
 // undo
 fn undo_change<'a>(
     session: &mut Session,
-    mut words: SplitWhitespace<'a>,
+    words: SplitWhitespace<'a>,
 ) -> Result<Answer, Trouble<'a>> {
-    expect_end(&mut words)?;
+    let [] = numbers::<0>(words)?;
     session.undo()?;
     Ok(Answer::Done)
 }
@@ -102,9 +97,9 @@ fn undo_change<'a>(
 // redo
 fn redo_change<'a>(
     session: &mut Session,
-    mut words: SplitWhitespace<'a>,
+    words: SplitWhitespace<'a>,
 ) -> Result<Answer, Trouble<'a>> {
-    expect_end(&mut words)?;
+    let [] = numbers::<0>(words)?;
     session.redo()?;
     Ok(Answer::Done)
 }
@@ -112,33 +107,23 @@ fn redo_change<'a>(
 // buffers CELLS BLOCKS RECORDS
 fn lend_buffers<'a>(
     session: &mut Session,
-    mut words: SplitWhitespace<'a>,
+    words: SplitWhitespace<'a>,
 ) -> Result<Answer, Trouble<'a>> {
-    let cells = next_number(&mut words)?;
-    let blocks = next_number(&mut words)?;
-    let records = next_number(&mut words)?;
-    expect_end(&mut words)?;
+    let [cells, blocks, records] = numbers::<3>(words)?;
     session.lend(cells, blocks, records)?;
     Ok(Answer::Done)
 }
 
 // room OUT WORK
-fn lend_room<'a>(
-    session: &mut Session,
-    mut words: SplitWhitespace<'a>,
-) -> Result<Answer, Trouble<'a>> {
-    let out = next_number(&mut words)?;
-    let work = next_number(&mut words)?;
-    expect_end(&mut words)?;
+fn lend_room<'a>(session: &mut Session, words: SplitWhitespace<'a>) -> Result<Answer, Trouble<'a>> {
+    let [out, work] = numbers::<2>(words)?;
     session.lend_room(out, work)?;
     Ok(Answer::Done)
 }
 
 // show ROW COLUMN
-fn show_cell<'a>(session: &Session, mut words: SplitWhitespace<'a>) -> Result<Answer, Trouble<'a>> {
-    let row = next_number(&mut words)?;
-    let column = next_number(&mut words)?;
-    expect_end(&mut words)?;
+fn show_cell<'a>(session: &Session, words: SplitWhitespace<'a>) -> Result<Answer, Trouble<'a>> {
+    let [row, column] = numbers::<2>(words)?;
     Ok(Answer::Cell(session.show(row, column)?))
 }
 
@@ -173,17 +158,14 @@ fn recover_message<'a>(
 // sizes
 fn show_sizes<'a>(
     session: &mut Session,
-    mut words: SplitWhitespace<'a>,
+    words: SplitWhitespace<'a>,
 ) -> Result<Answer, Trouble<'a>> {
-    expect_end(&mut words)?;
+    let [] = numbers::<0>(words)?;
     Ok(Answer::Sizes(session.sizes()?))
 }
 
 // size
-fn show_size<'a>(
-    session: &mut Session,
-    mut words: SplitWhitespace<'a>,
-) -> Result<Answer, Trouble<'a>> {
-    expect_end(&mut words)?;
+fn show_size<'a>(session: &mut Session, words: SplitWhitespace<'a>) -> Result<Answer, Trouble<'a>> {
+    let [] = numbers::<0>(words)?;
     Ok(Answer::Size(session.parameters()?))
 }

@@ -65,11 +65,17 @@ pub fn next_number<'a>(words: &mut SplitWhitespace<'a>) -> Result<usize, Trouble
     }
 }
 
-// The line has to end here.
-pub fn expect_end<'a>(words: &mut SplitWhitespace<'a>) -> Result<(), Trouble<'a>> {
+// As many numbers as are wanted, after which the line has to end.
+pub fn numbers<'a, const N: usize>(
+    mut words: SplitWhitespace<'a>,
+) -> Result<[usize; N], Trouble<'a>> {
+    let mut numbers = [0; N];
+    for number in numbers.iter_mut() {
+        *number = next_number(&mut words)?;
+    }
     match words.next() {
         Some(word) => Err(Trouble::Word("one word too many", word)),
-        None => Ok(()),
+        None => Ok(numbers),
     }
 }
 

@@ -69,9 +69,7 @@ impl Refusal {
 
 impl fmt::Display for Refusal {
     fn fmt<W: fmt::Write>(&self, f: &mut fmt::Formatter<W>) -> fmt::Result {
-        let number = self.number();
-        let reason = self.reason();
-        write!(f, "{number} ({reason})")
+        write!(f, "{} ({})", self.number(), self.reason())
     }
 }
 
