@@ -127,8 +127,3 @@ module _ (f : Meaning) (w : Lawful f) (two : CharacteristicTwo f) where
   pub same_from_sum : (a b : ℕ) → a < f.q → b < f.q → f.sum a b ≡ 0 → a ≡ b
   same_from_sum a b ha hb e =
       cc (w.sum_assoc a b b, two.sum_self b, sum_zero_right f w a ha, w.sum_zero b hb)
-
-  -- the sum of terms of which all but two are 0, and these two are the same
-  pub total_pair : (n i j : ℕ) (t : ℕ → ℕ) → i < j → j < n → t i ≡ t j
-      → ((k : ℕ) → k < n → (k ≡ i → ⊥) → (k ≡ j → ⊥) → t k ≡ 0) → total f n t ≡ 0
-  total_pair n i j t l h e z = total_two f w n i j t l h z ∙ ap (λ (x : ℕ). f.sum x (t j)) e ∙ two.sum_self (t j)

@@ -42,13 +42,7 @@ packed_sound ts h = simp (packed_terms ts h, packed_rest ts h, unused_padding 4 
 pub normal_sound : (r : CellRow) → sound r ≡ true → normal r ≡ r
 normal_sound r h = cond-true (sound r) r empty h
 
-pub sound_normal : (r : CellRow) → sound (normal r) ≡ true
-sound_normal r = cond_both (sound r) r empty (λ x. sound x ≡ true) (λ h. h) (λ _. refl)
-
 -- the terms of a cell's row, and of the cell that a row is read as
-pub sound_terms : (r : CellRow) → sound r ≡ true → take r.count r.terms ≡ terms_of r
-sound_terms r h = sym (cond-true (sound r) (take r.count r.terms) [] h)
-
 pub terms_normal : (r : CellRow) → take (normal r).count (normal r).terms ≡ terms_of r
 terms_normal r =
     elim (sound r) as (λ b. take (cond b r empty).count (cond b r empty).terms ≡ cond b (take r.count r.terms) [])
@@ -57,6 +51,3 @@ terms_normal r =
 pub terms_lawful : (r : CellRow) → lawful (terms_of r) ≡ true
 terms_lawful r =
     cond_both (sound r) (take r.count r.terms) [] (λ ts. lawful ts ≡ true) (λ h. grind (arith, nat_tests)) (λ _. refl)
-
-pub terms_short : (r : CellRow) → length (terms_of r) ≤ 4
-terms_short r = lawful_short (terms_of r) (terms_lawful r)

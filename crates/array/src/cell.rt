@@ -13,13 +13,14 @@ pub struct Cell {
     ghost keeps: { sound row ≡ true },
 }
 
+// A constant, since it fills arrays of four; no heap is used.
 const NO_TERM: Term = Term {
     shift: 0,
     coefficient: 0,
 };
 
 impl Cell {
-    // The cell that has no terms.
+    // The cell that has no terms. By that name and no Default, since an array starts with such cells.
     pub fn empty() -> Self
         ensures { result.row ≡ empty }
     {

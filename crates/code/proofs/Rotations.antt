@@ -25,9 +25,6 @@ turned_back shift e s h g =
 pub part_length : (start n : ℕ) (xs : List ℕ) → start + n ≤ length xs → length (take (start + n - start) (drop start xs)) ≡ n
 part_length start n xs h = search (rules, places)
 
-pub part_read : (start n : ℕ) (xs : List ℕ) (l : ℕ) → l < n → get_or (take (start + n - start) (drop start xs)) l 0 ≡ get_or xs (start + l) 0
-part_read start n xs l h = search (rules, places)
-
 -- part j of a list that is cut into parts of n
 pub part_at : {X : Type 0} (xs : List X) (n j : ℕ) (ys : List X) (d : X) → ys ≡ take n (drop (j * n) xs)
     → (l : ℕ) → l < n → get_or ys l d ≡ get_or xs (j * n + l) d

@@ -164,7 +164,7 @@ pub fn check<F: Field>(
     // No heap is used: a word has at most 511 checks to a row.
     let mut space = [0; 511];
     let sums = &mut space[..shape.size()];
-    // By its number, which is part of the answer.
+    // By its number, which is part of the answer: in a loop over the rows as chunks it would not be known which row a chunk is.
     for row in 0..shape.rows() {
         row_syndromes(f, shape, cells, word, row, sums);
         if let Some(s) = first_nonzero(sums) {

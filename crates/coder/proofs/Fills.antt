@@ -1,12 +1,13 @@
 -- A block's spectrum, filled column by column.
-use Rattle.std.proofs.Common.{◌≡◌, ℕ, zero, suc, ◌+◌, ◌<◌, ◌≤◌, true, false, cond, List, [], ◌∷◌, length, get_or, set, take, fold, zip, sym, refl, ap, ap₂, ◌∙◌, ⊎_elim, add-one, arith, below_more}
+use Rattle.std.proofs.Common.{◌≡◌, ℕ, zero, suc, ◌+◌, ◌<◌, ◌≤◌, Bool, true, false, cond, List, [], ◌∷◌, length, get_or, set, take, fold, zip, sym, refl, ap, ap₂, ◌∙◌, ⊎_elim, add-one, arith, below_more}
 use Rattle.std.proofs.lemmas.List.{get_or-set_same, get_or-set_other, take_all}
 use Rattle.std.proofs.lemmas.List.Sums.{fold_more}
 use Rattle.std.proofs.lemmas.Bool.{cases_Bool, cond-true, cond-false}
 use Rattle.field.specs.Meaning.{Meaning, Lawful}
 use Rattle.field.specs.Sums.{total}
-use Rattle.algebra.specs.Matrices.{lead_row, free}
+use Rattle.algebra.specs.Matrices.{lead_row, free, count}
 use Rattle.algebra.specs.Solutions.{free_part, solved}
+use Rattle.algebra.proofs.Counts.{count_true}
 use Rattle.algebra.proofs.Powers.{product_zero}
 use Rattle.algebra.proofs.Sums.{total_same}
 
@@ -16,6 +17,12 @@ pub stored : (u : ℕ → ℕ) (xs : List ℕ) (i x : ℕ) → i < length xs →
 stored u xs i x l a e =
     below_more (λ (h : ℕ). get_or (set xs i x) h 0 ≡ u h) i
     (λ h g. get_or-set_other xs i h x 0 (λ s. omega arith) ∙ a h g) (get_or-set_same xs i x 0 l ∙ e)
+
+-- one message symbol more where the column is free
+pub spread_free_lem : (p : ℕ → Bool) (first j k k' : ℕ) → p j ≡ true → k ≡ first + count j p → k' ≡ k + 1 → k' ≡ first + count (j + 1) p
+spread_free_lem p first j k k' t e e' =
+    let c : count (suc j) p ≡ suc (count j p) = count_true p j t in
+    e' ∙ ap (λ (n : ℕ). n + 1) e ∙ omega arith ∙ ap (λ (n : ℕ). first + count n p) (sym (add-one j))
 
 -- a vector that is 0 in the leading columns, times a row, is the row's part over the free columns
 module _ (f : Meaning) (w : Lawful f) (rows c : ℕ) (m : ℕ → ℕ → ℕ) (v u : ℕ → ℕ) (eu : (j : ℕ) → j < c → u j ≡ cond (free rows m j) (v j) 0) where

@@ -45,7 +45,8 @@ fn judge(
     Ok(())
 }
 
-// The spectrum at frequency `t`, from the message symbols from `first` on.
+// The spectrum at frequency `t`, from the message symbols from `first` on. A number and no rest of the message, which may have
+// fewer symbols than that where the forms are other ones than its own.
 fn fill_block<F: Field>(
     f: &F,
     forms: &Forms,

@@ -29,6 +29,7 @@ impl<'a> Matrix<'a> {
             ((j : ℕ) → j < self.now.columns →
             slice_index values.new j ≡ (if p j then slice_index message.now (first + count j p) else 0)) }
     {
+        // k counts the free columns and no places of a slice.
         let mut k = first;
         for (j, value) in values.iter_mut().enumerate() {
             if self.is_free(j) {

@@ -11,7 +11,7 @@ use blocks::block_start;
 use field::Symbol;
 use refusal::Refusal;
 
-// The echelon forms of all check blocks of an array.
+// The echelon forms of all check blocks of an array. That a frequency is one of theirs is asked of each call, as of a matrix.
 #[derive(Clone, Copy)]
 pub(crate) struct Forms<'a> {
     shape: Shape,

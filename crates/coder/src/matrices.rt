@@ -36,7 +36,7 @@ pub(crate) fn word_length(shape: &Shape) -> usize
     shape.columns() * shape.size()
 }
 
-// A matrix, row by row. That a row or a column is one of its own is asked of each call and no type: a type for an index would say
+// A matrix, row by row, that is read; the reduction has one that it writes. That a row or a column is one of its own is asked of each call and no type: a type for an index would say
 // less than the call, since it knows no matrix.
 #[derive(Clone, Copy)]
 pub(crate) struct Matrix<'a> {

@@ -101,6 +101,7 @@ impl<'a> Matrix<'a> {
             let p = free self.now.rows (row_major n self.now.symbols.now) in
             out.new ≡ gathered n p (λ j. slice_index values.now j) ++ drop (count n p) out.old }
     {
+        // k counts the free columns and no places of a slice.
         let mut k = 0;
         // By index: what is written through an iterator over two slices is not known afterwards.
         for (j, value) in values.iter().enumerate() {
@@ -150,6 +151,7 @@ fn read_message<F: Field>(f: &F, forms: &Forms, table: &Matrix, out: &mut [Symbo
     let beta = f.inverse(root(f, &shape));
     let mut x = 1;
     let mut first = 0;
+    // By number: each frequency has a power and a block of its own.
     for t in 0..shape.size() {
         evaluate(f, table, x, values);
         first += read_block(forms, t, values, &mut out[first..]);

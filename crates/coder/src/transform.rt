@@ -80,6 +80,7 @@ pub(crate) fn synthesize<F: Field>(f: &F, alpha: Symbol, spectra: &Matrix, out: 
     let mut space = [0; 64];
     let sums = &mut space[..spectra.columns()];
     let mut x = 1;
+    // By number: each symbol of a column has a power of its own.
     for l in 0..spectra.rows() {
         evaluate(f, spectra, x, sums);
         scatter(sums, out, spectra.rows(), l);

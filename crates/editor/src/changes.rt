@@ -15,7 +15,8 @@ use field::{Field, Symbol};
 use history::{ChangeRecord, History};
 use refusal::Refusal;
 
-// It holds nothing of the buffers, so that a copy of it speaks of the same ones.
+// It holds nothing of the buffers, so that a copy of it speaks of the same ones. They are lent one by one, to read or to write as a
+// call needs them, and each change is its step of the history and the forms built after it.
 #[derive(Clone, Copy, PartialEq, Eq, Debug)]
 pub struct Editor<F> {
     field: F,

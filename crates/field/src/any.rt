@@ -12,6 +12,7 @@ pub enum AnyField {
     Table(TableField),
 }
 
+// Each function asks which field it is: a dyn or a function pointer would be called anew for each symbol.
 impl Binary for AnyField {
     ghost use Rattle.field.specs.AnyField.{degree_of, degree_of_low, degree_of_high};
 

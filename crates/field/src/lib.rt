@@ -1,4 +1,4 @@
-// Finite fields: the interface that everything above is written against, and two implementations of it.
+// Finite fields: the interface that everything above is written against, its implementation, and the fields that have it.
 
 #![tactic(auto)]
 

@@ -70,7 +70,7 @@ impl From<Unrecovered> for Trouble<'_> {
     }
 }
 
-// A name and the symbols after it.
+// A name and the symbols after it: two answers print so.
 fn write_symbols<W: fmt::Write>(
     f: &mut fmt::Formatter<W>,
     name: &str,

@@ -84,7 +84,7 @@ fn resize_array<'a>(
     Ok(Answer::Done)
 }
 
-// undo
+// undo. Two functions and no third that takes the step: a function that takes `Session::undo` by a bound gets no proof.
 fn undo_change<'a>(
     session: &mut Session,
     words: SplitWhitespace<'a>,

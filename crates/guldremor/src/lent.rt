@@ -1,5 +1,5 @@
 // A buffer of which a first part is lent to the library's calls, so long as the script wants it.
-ghost use Rattle.std.specs.Prelude.{◌≡◌, ◌≤◌, take, vec_len, IfOk, replicate};
+ghost use Rattle.std.specs.Prelude.{◌≡◌, take, IfOk};
 
 use std::alloc::{AllocError, Global};
 
@@ -42,7 +42,9 @@ impl<T: Copy + Drop> Lent<T> {
         &self.items.as_slice()[..n]
     }
 
-    pub fn first_mut(&mut self) -> &mut [T] {
+    pub fn first_mut(&mut self) -> &mut [T]
+        ensures { result.now ≡ take self.old.length self.old.items.items }
+    {
         let n = self.length.min(self.items.len());
         &mut self.items.as_mut_slice()[..n]
     }

@@ -13,11 +13,11 @@ use session::Session;
 use std::io::{BufRead, BufReader, ErrorKind};
 use std::process::ExitCode;
 
-// Makes one line of the script and prints its answer; false where the line is no command.
+// Makes one line of the script and prints its answer; false where the line is no command. A bool, since no more is asked of it.
 fn make_line(
     rt: &HostRuntime,
     session: &mut Session,
-    number: u64,
+    number: usize,
     line: &str,
 ) -> anyhow::Result<bool> {
     let mut words = line.split_whitespace();
@@ -43,10 +43,9 @@ fn make_line(
 fn make_script(rt: &HostRuntime) -> anyhow::Result<bool> {
     let heap = rt.alloc();
     let mut session = Session::new(heap)?;
-    let mut number: u64 = 0;
     let mut all = true;
-    for line in BufReader::new(heap, rt.stdin())?.lines(heap) {
-        number = number.wrapping_add(1);
+    for (before, line) in BufReader::new(heap, rt.stdin())?.lines(heap).enumerate() {
+        let number = before.saturating_add(1);
         match line {
             Ok(text) => {
                 if !make_line(rt, &mut session, number, text.as_str())? {

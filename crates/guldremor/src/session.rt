@@ -3,6 +3,7 @@ ghost use Rattle.std.specs.Prelude.{◌≡◌, ◌-◌, ◌*◌, ◌%◌, ◌≤
 ghost use Rattle.array.specs.Buffers.{cell_at};
 ghost use Rattle.array.specs.Cells.{normal};
 ghost use Rattle.code.specs.Checks.{Checked, PassesAll};
+ghost use Rattle.coder.specs.Forms.{dimension};
 ghost use Rattle.field.specs.AnyField.{meaning_of};
 ghost use Rattle.guldremor.specs.Sessions.{field_of, shape_of, lent_of};
 
@@ -146,7 +147,9 @@ impl Session {
         size: usize,
         rows: usize,
         columns: usize,
-    ) -> Result<(), Trouble<'static>> {
+    ) -> Result<(), Trouble<'static>>
+        ensures { field_of self.new.stage ≡ field_of self.old.stage }
+    {
         let field = self.stage.field()?;
         self.stage = Stage::Drawn(Editor::new(
             field,
@@ -160,6 +163,8 @@ impl Session {
         Ok(())
     }
 
+    // The changes are a step of the editor each, between the same two lines: a closure for the step would have to be given, and to
+    // say, all that the step is lent.
     pub fn place(
         &mut self,
         row: usize,
@@ -235,7 +240,12 @@ impl Session {
     }
 
     // The circulant size, the rows and columns of the array, and the dimension.
-    pub fn parameters(&self) -> Result<Parameters, Trouble<'static>> {
+    pub fn parameters(&self) -> Result<Parameters, Trouble<'static>>
+        ensures { let d = self.now in
+            IfOk result (λ p. (s : Shape) × (shape_of d.stage ≡ Some s)
+            × (p.size ≡ s.size) × (p.rows ≡ s.rows) × (p.columns ≡ s.columns)
+            × (p.dimension ≡ dimension s.rows s.columns s.size (take d.blocks.length d.blocks.items.items))) }
+    {
         Ok(self.stage.editor()?.size(self.blocks.first())?)
     }
 

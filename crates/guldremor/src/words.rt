@@ -1,5 +1,5 @@
-// The words of a command line: numbers and terms. Functions and no FromStr: numbers and terms of std and of the library are read here
-// by the script's own rules, in which a number that is too large counts as the largest.
+// The words of a command line: numbers and terms. They are read by functions and no FromStr, since the types are not the program's
+// own, and a script has a rule of its own: a number that is too large counts as the largest.
 ghost use Rattle.std.specs.Prelude.{◌≡◌, ◌+◌, ◌-◌, ◌*◌, ◌^◌, min, true, false, MatchOption, MatchResult};
 ghost use Rattle.guldremor.specs.Words.{numeral, value};
 
@@ -59,10 +59,8 @@ pub fn read_symbol(word: &str) -> Result<u16, Trouble<'_>>
 
 // The next word, which has to be a number.
 pub fn next_number<'a>(words: &mut SplitWhitespace<'a>) -> Result<usize, Trouble<'a>> {
-    match words.next() {
-        Some(word) => Ok(read_number(word)? as usize),
-        None => Err(Trouble::Line("a number is missing")),
-    }
+    let word = words.next().ok_or(Trouble::Line("a number is missing"))?;
+    Ok(read_number(word)? as usize)
 }
 
 // As many numbers as are wanted, after which the line has to end.

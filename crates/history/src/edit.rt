@@ -26,6 +26,7 @@ pub struct History {
 impl History {
     ghost use Rattle.history.specs.Histories.{state_of};
 
+    // The size, rows and columns are plain numbers, and no shape yet, since a buffer that is too short is refused before them.
     // An array of rows x columns empty cells at a circulant size, for a field of `order` symbols, with no changes yet.
     // `blocks` and `records` are the lengths of the other buffers. Refuses with Buffer, Size, then Shape.
     pub fn new(

@@ -17,18 +17,6 @@ pub outcome_reduced : (f : Meaning) (rows c : ℕ) (xs ys : List ℕ) (r : Optio
 outcome_reduced f rows c xs ys (Some rank) o b = (rank, refl, o.1)
 outcome_reduced f rows c xs ys None o b = absurd (o.0 b)
 
--- where all entries are symbols, the list is a block
-pub entries_block : (q rows c : ℕ) (xs : List ℕ) → length xs ≡ rows * c → Symbols q rows c (at c xs) → Block q rows c xs
-entries_block q rows c xs sized s = record {
-  sized = sized;
-  symbols = λ k l.
-      let row : k < rows * c = omega arith in
-      let some : 0 < c =
-      ⊎_elim (λ (e : c ≡ 0). omega (arith, ap (λ (x : ℕ). rows * x) e, mul-zero rows)) (λ (d : c ≡ 0 → ⊥). omega arith)
-      (cases_eq c 0) in
-      subst (λ (p : ℕ). get_or xs p 0 < q) (div-add-mod' k c) (s (k / c) (k % c) (div_below k c rows some row) (mod_below k c some));
-}
-
 -- matrices that agree in range
 module _ (f : Meaning) (w : Lawful f) (rows c : ℕ) where
   same_null : (a b : ℕ → ℕ → ℕ) → ((i j : ℕ) → i < rows → j < c → a i j ≡ b i j) → SameNull f rows c a b

@@ -1,4 +1,5 @@
-// What C calls.
+// What C calls. Each makes the code by a match of its own: of what a closure writes to a buffer that it borrows, too little is known
+// afterwards.
 ghost use Rattle.std.specs.Prelude.{◌≡◌, List, MatchResult};
 ghost use Rattle.array.specs.declared.plain.CellRow.{CellRow};
 ghost use Rattle.blocks.specs.Blocks.{Holds};

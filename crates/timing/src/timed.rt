@@ -26,6 +26,7 @@ impl Code {
         ensures field { IfOk result (λ c. meaning_of c.field ≡ field_of field) }
         ensures shape { IfOk result (λ c. (c.shape.size ≡ size) × (c.shape.rows ≡ rows) × (c.shape.columns ≡ columns)) }
     {
+        // C gives the number.
         let field = if field == 0 {
             AnyField::Table(TableField)
         } else {

@@ -1,4 +1,4 @@
-// Terms as they are printed, shift:coefficient.
+// Terms as they are printed, shift:coefficient. A macro, since no function can be called in a constant.
 
 macro_rules! terms {
     ($($shift:literal : $coefficient:expr),* $(,)?) => {
