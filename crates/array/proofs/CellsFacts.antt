@@ -1,5 +1,5 @@
 -- Facts on rows of cells, for this crate and for its callers.
-use Rattle.std.proofs.Common.{◌≡◌, ℕ, zero, suc, ◌+◌, ◌-◌, ◌≤◌, true, false, cond, List, [], ◌++◌, length, take, drop, replicate, sym, refl, arith}
+use Rattle.std.proofs.Common.{◌≡◌, ℕ, zero, suc, ◌+◌, ◌-◌, ◌≤◌, true, false, cond, List, [], ◌++◌, length, take, drop, replicate, refl, arith}
 use lib.Seq.{take-append-add}
 use Rattle.std.proofs.lemmas.List.{take_at, drop_at, take-replicate, drop-replicate}
 use Rattle.std.proofs.lemmas.Bool.{cond-true, cond_both}

@@ -1,5 +1,5 @@
 // The receiver's side: does a word pass every parity check of an array?
-ghost use Rattle.std.specs.Prelude.{◌≡◌, ℕ, ◌+◌, ◌-◌, ◌*◌, ◌%◌, ◌<◌, ◌≤◌, length, take, drop, Some, None, MatchOption, MatchResult, ◌≢◌, slice_index};
+ghost use Rattle.std.specs.Prelude.{◌≡◌, ℕ, ◌+◌, ◌*◌, ◌%◌, ◌<◌, ◌≤◌, length, take, drop, Some, None, MatchOption, MatchResult, ◌≢◌, slice_index};
 ghost use Rattle.code.specs.Checks.{cell_sum, syndrome, check_refusal, Judged, Checked, Answered};
 
 use array::{CELLS, Cell, CellRow, Shape, Term};

@@ -1,6 +1,6 @@
 // The editor, and the calls that change what it holds. After each accepted change the block buffer holds the echelon forms of the
 // array and size as they are then; a refused one leaves everything as it was.
-ghost use Rattle.std.specs.Prelude.{◌≡◌, ℕ, ◌*◌, ◌<◌, ◌≤◌, List, ◌++◌, length, drop, replicate, IfOk, MatchResult, slice_index};
+ghost use Rattle.std.specs.Prelude.{◌≡◌, ℕ, ◌*◌, ◌<◌, ◌≤◌, ◌++◌, length, drop, replicate, IfOk, MatchResult, slice_index};
 ghost use Rattle.std.specs.Result.{result_err};
 ghost use Rattle.array.specs.Cells.{empty};
 ghost use Rattle.blocks.specs.Blocks.{Holds};

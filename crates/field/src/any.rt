@@ -1,5 +1,4 @@
 // A field that is chosen when the program runs.
-ghost use Rattle.std.specs.Prelude.{◌≡◌, ℕ};
 
 use super::binary::Binary;
 use super::interface::Symbol;

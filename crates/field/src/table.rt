@@ -1,5 +1,4 @@
 // The table field: the shift field of degree 9, multiplied through tables of powers and logarithms.
-ghost use Rattle.std.specs.Prelude.{◌≡◌, ℕ};
 ghost use Rattle.std.proofs.Common.{lit≤};
 ghost use Rattle.field.specs.Meaning.{Alike};
 ghost use Rattle.field.specs.Shift.{shift_field};

@@ -1,5 +1,5 @@
 // What a script has set up so far: a field, an editor over it, and the buffers that are lent to the editor's calls.
-ghost use Rattle.std.specs.Prelude.{◌≡◌, ◌-◌, ◌*◌, ◌%◌, ◌≤◌, take, Ok, MatchResult, IfOk, OnOk};
+ghost use Rattle.std.specs.Prelude.{◌≡◌, ◌-◌, ◌%◌, ◌≤◌, take, Ok, MatchResult, IfOk, OnOk};
 ghost use Rattle.array.specs.Buffers.{cell_at};
 ghost use Rattle.array.specs.Cells.{normal};
 ghost use Rattle.code.specs.Checks.{Checked, PassesAll};

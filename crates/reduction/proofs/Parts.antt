@@ -1,14 +1,12 @@
 -- A block inside a longer list of symbols, at the places from `start` on: for a caller that reduces one of many blocks.
-use Rattle.std.proofs.Common.{◌≡◌, ℕ, ◌+◌, ◌*◌, ◌/◌, ◌%◌, ◌<◌, ◌≤◌, List, length, get_or, take, drop, Some, None, Option, sym, refl, ap, ◌∙◌, subst, ⊎_elim, mul-zero, arith, rules}
+use Rattle.std.proofs.Common.{◌≡◌, ℕ, ◌+◌, ◌*◌, ◌<◌, ◌≤◌, List, length, get_or, take, drop, Some, None, Option, sym, refl, ap, ◌∙◌, subst, arith, rules}
 use borrow.Rule.Slice.PartMut.{put_mid}
 use Rattle.std.proofs.lemmas.List.{places, get_or-take, get_or-drop}
-use Rattle.std.proofs.lemmas.Nat.{div-add-mod', div_below, mod_below}
-use Rattle.std.proofs.lemmas.Bool.{cases_eq}
 use Rattle.field.specs.Meaning.{Meaning, Lawful}
 use Rattle.algebra.specs.Matrices.{SameNull, Echelon, Reduced}
 use Rattle.algebra.proofs.Sums.{total_same}
 use Rattle.algebra.proofs.Nulls.{same_null_join}
-use Rattle.reduction.specs.Blocks.{at, Symbols, Block, Outcome}
+use Rattle.reduction.specs.Blocks.{at, Block, Outcome}
 use Rattle.reduction.proofs.Places.{row_end}
 
 -- a block is reduced

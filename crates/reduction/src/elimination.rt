@@ -1,5 +1,5 @@
 // The reduction of a block to reduced row echelon form, column by column.
-ghost use Rattle.std.specs.Prelude.{◌≡◌, ℕ, ◌*◌, ◌<◌, ◌≤◌};
+ghost use Rattle.std.specs.Prelude.{◌<◌, ◌≤◌};
 ghost use Rattle.algebra.specs.Matrices.{Reduced};
 ghost use Rattle.reduction.specs.Blocks.{Symbols, Outcome};
 ghost use Rattle.reduction.specs.Steps.{Stepped};

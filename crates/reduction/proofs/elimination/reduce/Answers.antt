@@ -1,4 +1,4 @@
-use Rattle.std.proofs.Common.{◌≡◌, sym, refl, arith}
+use Rattle.std.proofs.Common.{sym, refl, arith}
 use Rattle.field.proofs.SymbolTests.{symbols_fail}
 use Rattle.reduction.specs.Blocks.{Block}
 use Rattle.reduction.proofs.elimination.reduce.Goals as goal

@@ -1,4 +1,4 @@
-use Rattle.std.proofs.Common.{◌≡◌, ℕ, ◌-◌, ◌^◌, ◌<◌, refl, ap, ◌∙◌, arith}
+use Rattle.std.proofs.Common.{refl, ◌∙◌, arith}
 use Rattle.field.specs.Shift.{raised}
 use Rattle.field.specs.Powers.{order_low}
 use Rattle.field.proofs.Steps.{square_first, square_next, inverse_next}
