@@ -164,7 +164,7 @@ impl Session {
     }
 
     // The changes are a step of the editor each, between the same two lines: a closure for the step would have to be given, and to
-    // say, all that the step is lent.
+    // say, all that the step is lent. That the field stays is a promise of each of them.
     pub fn place(
         &mut self,
         row: usize,
