@@ -47,7 +47,3 @@ pub terms_normal : (r : CellRow) → take (normal r).count (normal r).terms ≡ 
 terms_normal r =
     elim (sound r) as (λ b. take (cond b r empty).count (cond b r empty).terms ≡ cond b (take r.count r.terms) [])
     [ true ↦ refl | false ↦ refl ]
-
-pub terms_lawful : (r : CellRow) → lawful (terms_of r) ≡ true
-terms_lawful r =
-    cond_both (sound r) (take r.count r.terms) [] (λ ts. lawful ts ≡ true) (λ h. grind (arith, nat_tests)) (λ _. refl)

@@ -20,7 +20,7 @@ const NO_TERM: Term = Term {
 };
 
 impl Cell {
-    // The cell that has no terms. By that name and no Default, since an array starts with such cells.
+    // The cell that has no terms: `Cell::empty()` says so, where a Default would not.
     pub fn empty() -> Self
         ensures { result.row ≡ empty }
     {

@@ -10,7 +10,7 @@ pub fn is_lawful(terms: &[Term]) -> bool
     terms.len() <= 4 && is_rising(terms)
 }
 
-// Do shifts rise strictly, and is each number in its range?
+// Do shifts rise strictly, and is each number in its range? A loop, since each shift is compared with the one before.
 fn is_rising(terms: &[Term]) -> bool
     ensures { result ≡ rising 0 terms.now }
 {

@@ -21,7 +21,8 @@ fn row_times<F: Field>(f: &F, row: &[Symbol], values: &[Symbol]) -> Symbol
 }
 
 impl<'a> Matrix<'a> {
-    // The message symbols from `first` on, one for each free column, and 0 in the leading columns.
+    // The message symbols from `first` on, one for each free column, and 0 in the leading columns. `first` is bounded at each call, so
+    // that no sum overflows; it is a number of the loop over all blocks, and no part of a value.
     fn spread_free(&self, message: &[Symbol], first: usize, values: &mut [Symbol])
         requires sized { length values.old ≡ self.now.columns }
         requires few { first ≤ 65536 }

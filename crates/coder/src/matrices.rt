@@ -36,8 +36,9 @@ pub(crate) fn word_length(shape: &Shape) -> usize
     shape.columns() * shape.size()
 }
 
-// A matrix, row by row, that is read; the reduction has one that it writes. That a row or a column is one of its own is asked of each call and no type: a type for an index would say
-// less than the call, since it knows no matrix.
+// A matrix, row by row, that is read; the reduction has one that it writes. That a row or a column is one of its own, and that a lent
+// slice has a symbol for each of its columns, is asked of each call and no type: a type for an index or a slice would say less than
+// the call, since it knows no matrix.
 #[derive(Clone, Copy)]
 pub(crate) struct Matrix<'a> {
     symbols: &'a [Symbol],

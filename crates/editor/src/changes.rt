@@ -16,7 +16,8 @@ use history::{ChangeRecord, History};
 use refusal::Refusal;
 
 // It holds nothing of the buffers, so that a copy of it speaks of the same ones. They are lent one by one, to read or to write as a
-// call needs them, and each change is its step of the history and the forms built after it. That the field stays is a promise of each
+// call needs them, and each change is its step of the history and the forms built after it: one function for the four would take the
+// step as a closure, which would have to say what it writes of all that it is lent. That the field stays is a promise of each
 // change: a type says what holds of a value, and not what stays the same.
 #[derive(Clone, Copy, PartialEq, Eq, Debug)]
 pub struct Editor<F> {

@@ -11,7 +11,7 @@ pub enum AnyField {
     Table(TableField),
 }
 
-// Each function asks which field it is: a dyn or a function pointer would be called anew for each symbol.
+// Each function hands on to the one of two fields that it is. A trait object in place of the enum would need the heap.
 impl Binary for AnyField {
     ghost use Rattle.field.specs.AnyField.{degree_of, degree_of_low, degree_of_high};
 

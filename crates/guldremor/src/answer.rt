@@ -70,15 +70,15 @@ impl From<Unrecovered> for Trouble<'_> {
     }
 }
 
-// A name and the symbols after it: two answers print so.
-fn write_symbols<W: fmt::Write>(
+// A name and what stands after it.
+fn write_list<T: fmt::Display, W: fmt::Write>(
     f: &mut fmt::Formatter<W>,
     name: &str,
-    symbols: &[Symbol],
+    items: &[T],
 ) -> fmt::Result {
     write!(f, "{name}")?;
-    for symbol in symbols {
-        write!(f, " {symbol}")?;
+    for item in items {
+        write!(f, " {item}")?;
     }
     Ok(())
 }
@@ -100,12 +100,12 @@ impl fmt::Display for SizeLine {
     }
 }
 
-// Ten thousand times dimension / length, to the nearest whole number; 0 where there is no symbol.
+// Ten thousand times dimension / length, to the nearest whole number; no symbols have the rate 0.
 fn rate_of(dimension: usize, length: usize) -> usize
     ensures { dimension ≤ 16384 → length ≤ 16384 → 0 < length → result ≡ (dimension * 10000 + length / 2) / length }
 {
     let scaled = dimension.saturating_mul(10000).saturating_add(length / 2);
-    if length > 0 { scaled / length } else { 0 }
+    scaled.checked_div(length).unwrap_or(0)
 }
 
 impl fmt::Display for Answer {
@@ -113,15 +113,9 @@ impl fmt::Display for Answer {
         match self {
             Answer::Field(order) => write!(f, "field {order}"),
             Answer::Done => write!(f, "ok"),
-            Answer::Cell(row) => {
-                write!(f, "cell")?;
-                for term in Cell::from(*row).terms() {
-                    write!(f, " {term}")?;
-                }
-                Ok(())
-            }
-            Answer::Word(word) => write_symbols(f, "word", word.as_slice()),
-            Answer::Message(message) => write_symbols(f, "message", message.as_slice()),
+            Answer::Cell(row) => write_list(f, "cell", Cell::from(*row).terms()),
+            Answer::Word(word) => write_list(f, "word", word.as_slice()),
+            Answer::Message(message) => write_list(f, "message", message.as_slice()),
             Answer::Sizes(lines) => {
                 write!(
                     f,

@@ -165,7 +165,7 @@ fn show_sizes<'a>(
 }
 
 // size
-fn show_size<'a>(session: &mut Session, words: SplitWhitespace<'a>) -> Result<Answer, Trouble<'a>> {
+fn show_size<'a>(session: &Session, words: SplitWhitespace<'a>) -> Result<Answer, Trouble<'a>> {
     let [] = numbers::<0>(words)?;
     Ok(Answer::Size(session.parameters()?))
 }

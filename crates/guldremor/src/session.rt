@@ -9,7 +9,7 @@ ghost use Rattle.guldremor.specs.Sessions.{field_of, shape_of, lent_of};
 
 use super::answer::{SizeLine, Trouble};
 use super::lent::Lent;
-use array::{Cell, CellRow, Shape, Term};
+use array::{BLOCK_SYMBOLS, CELLS, Cell, CellRow, Shape, Term};
 use blocks::build_forms;
 use code::Verdict;
 use editor::{Editor, Parameters};
@@ -62,22 +62,23 @@ pub struct Session {
     spare: Vec<Symbol>,
 }
 
-const CELLS: usize = 1024;
+// How many cells, block symbols and records the session holds, and how many symbols of each other buffer.
+const HELD_CELLS: usize = 1024;
 
-const BLOCKS: usize = 32768;
+const HELD_BLOCKS: usize = 32768;
 
-const RECORDS: usize = 4096;
+const HELD_RECORDS: usize = 4096;
 
-const WORD: usize = 16384;
+const WORD: usize = BLOCK_SYMBOLS;
 
 impl Session {
     pub fn new(heap: Global) -> Result<Self, AllocError> {
         Ok(Session {
             heap,
             stage: Stage::Start,
-            cells: Lent::new(heap, CellRow::default(), CELLS, 512)?,
-            blocks: Lent::new(heap, 0, BLOCKS, 16384)?,
-            records: Lent::new(heap, ChangeRecord::default(), RECORDS, 1024)?,
+            cells: Lent::new(heap, CellRow::default(), HELD_CELLS, CELLS)?,
+            blocks: Lent::new(heap, 0, HELD_BLOCKS, BLOCK_SYMBOLS)?,
+            records: Lent::new(heap, ChangeRecord::default(), HELD_RECORDS, 1024)?,
             out: Lent::new(heap, 0, WORD, WORD)?,
             work: Lent::new(heap, 0, WORD, WORD)?,
             spare: vec![in heap; 0; WORD]?,
@@ -113,7 +114,7 @@ impl Session {
             × (new ≡ record { cells = cells; blocks = blocks; records = records; out = was.out; work = was.work }))
             (λ _. ((cells ≤ 1024) × (blocks ≤ 32768) × (records ≤ 4096) → ⊥) × (new ≡ was)) }
     {
-        if cells > CELLS || blocks > BLOCKS || records > RECORDS {
+        if cells > HELD_CELLS || blocks > HELD_BLOCKS || records > HELD_RECORDS {
             return Err(Trouble::Line(
                 "there are 1024 cells, 32768 block symbols and 4096 records to lend",
             ));

@@ -4,7 +4,7 @@ ghost use Rattle.algebra.specs.Matrices.{Swapped, RowIs};
 
 use field::{Field, Symbol};
 
-// The symbols in the caller's list, as many as rows times columns. That a row or a column is one of them is asked of each call and
+// The symbols in the caller's list, as many as rows times columns; the coder has a matrix of its own, which it only reads. That a row or a column is one of them is asked of each call and
 // no type: a type for an index would say less than the call, since it knows no matrix. Nor can the type say that the entries are
 // symbols, since it knows no field.
 #[derive(Drop)]

@@ -39,7 +39,7 @@ pub enum Refusal {
 }
 
 impl Refusal {
-    // By a name of its own, and no From: which number of a refusal it is would not be said.
+    // A method with a name and no From: `u8::from(refusal)` would not tell a reader which number it is.
     pub fn number(self) -> u8
         ensures { result ≡ number self }
     {
