@@ -52,10 +52,13 @@ pub(crate) struct BlockBuffer<'a> {
 impl BlockBuffer<'_> {
     ghost use Rattle.blocks.specs.Buffers.{IsSameBuffer};
 
-    // Adds one term to place `k` of every block.
-    fn add_term<F: Field>(&mut self, f: &F, alpha: Symbol, k: usize, term: Term)
+    // Adds one term to place `k` of every block. The sums are worked out in `own`, which overlaps neither the buffer nor the field
+    // where it is an array of the caller's: so the compiler asks once which field it is, and works out the multiples of the step once.
+    #[inline(always)]
+    fn add_term<F: Field>(&mut self, f: &F, alpha: Symbol, k: usize, term: Term, own: &mut [Symbol])
         requires root { alpha ≡ root_of (F.Field.meaning f.now) self.old.shape.size }
         requires place { k < self.old.shape.rows * self.old.shape.columns }
+        requires sized { length own.old ≡ self.old.shape.size }
         ensures same { IsSameBuffer self.old self.new }
         ensures added { let m = F.Field.meaning f.now in
             let s = self.old.shape in
@@ -67,18 +70,29 @@ impl BlockBuffer<'_> {
         let symbols = &mut *self.symbols;
         let step = power_of(f, alpha, term.shift as usize % shape.size());
         let mut p = f.product(term.coefficient, 1);
-        // By index: a loop over the blocks, as parts of the buffer that are written, gets no proof.
-        for t in 0..shape.size() {
-            let at = entry_place(&shape, t, k);
-            symbols[at] = f.sum(symbols[at], p);
+        for (t, sum) in own.iter_mut().enumerate() {
+            *sum = f.sum(symbols[entry_place(&shape, t, k)], p);
             p = f.product(p, step);
+        }
+        // By index: a loop over the blocks, as parts of the buffer that are written, gets no proof.
+        for (t, sum) in own.iter().enumerate() {
+            symbols[entry_place(&shape, t, k)] = *sum;
         }
     }
 
     // Adds all terms of a cell to place `k` of every block.
-    fn add_cell<F: Field>(&mut self, f: &F, alpha: Symbol, k: usize, terms: &[Term])
+    #[inline(always)]
+    fn add_cell<F: Field>(
+        &mut self,
+        f: &F,
+        alpha: Symbol,
+        k: usize,
+        terms: &[Term],
+        own: &mut [Symbol],
+    )
         requires root { alpha ≡ root_of (F.Field.meaning f.now) self.old.shape.size }
         requires place { k < self.old.shape.rows * self.old.shape.columns }
+        requires sized { length own.old ≡ self.old.shape.size }
         requires symbols { let s = self.old.shape in
             ((t : ℕ) → t < s.size →
             slice_index self.old.symbols.now (t * (s.rows * s.columns) + k) < (F.Field.meaning f.now).q) }
@@ -89,7 +103,7 @@ impl BlockBuffer<'_> {
             self.old.symbols.now self.new.symbols.now }
     {
         for term in terms {
-            self.add_term(f, alpha, k, *term);
+            self.add_term(f, alpha, k, *term, own);
         }
     }
 
@@ -113,10 +127,13 @@ impl BlockBuffer<'_> {
             Built (F.Field.meaning f.now) (s.rows * s.columns) s.size cells.now self.old.symbols.now self.new.symbols.now }
     {
         let alpha = root(f, &self.shape);
+        // No heap is used: there are at most 511 blocks.
+        let mut space = [0; 511];
+        let own = &mut space[..self.shape.size()];
         self.clear();
         for (k, row) in cells[..places(&self.shape)].iter().enumerate() {
             let cell = Cell::from(*row);
-            self.add_cell(f, alpha, k, cell.terms());
+            self.add_cell(f, alpha, k, cell.terms(), own);
         }
     }
 }

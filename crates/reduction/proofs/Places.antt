@@ -75,29 +75,35 @@ map_next t xs ys n x l e m = record {
   rest = λ k h. get_or-set_other ys n k x 0 (λ s. omega arith) ∙ m.rest k (omega arith);
 }
 
+-- row a is the n symbols from `start` on
+pub row_part : (c : ℕ) (xs : List ℕ) (a start n : ℕ) → start ≡ a * c + 0 → n ≡ c → (j : ℕ) → j < c
+    → get_or (take n (drop start xs)) j 0 ≡ at c xs a j
+row_part c xs a start n es en j l =
+    let same : start + j ≡ a * c + j = omega arith in
+    get_or-take n (drop start xs) j 0 (omega arith) ∙ get_or-drop start xs j 0 ∙ ap (λ (p : ℕ). get_or xs p 0) same
+
+pub row_part_long : (rows c : ℕ) (xs : List ℕ) (a start n : ℕ) → length xs ≡ rows * c → a < rows → start ≡ a * c + 0 → n ≡ c
+    → length (take n (drop start xs)) ≡ c
+row_part_long rows c xs a start n sized la es en =
+    length-take-le n (drop start xs) (omega (arith, length-drop start xs, row_end rows c a la)) ∙ en
+
 -- ys in place of row a, whose part of xs is the n symbols from `start` on
 module _ (rows c : ℕ) (xs ys : List ℕ) (a start n : ℕ) (sized : length xs ≡ rows * c) (la : a < rows) (es : start ≡ a * c + 0)
     (en : n ≡ c) (ly : length ys ≡ length (take n (drop start xs))) where
   length_part : length ys ≡ n
   length_part = ly ∙ length-take-le n (drop start xs) (omega (arith, length-drop start xs, row_end rows c a la))
 
-  part_here : (j : ℕ) → j < c → get_or (take n (drop start xs)) j 0 ≡ at c xs a j
-  part_here j l =
-      let same : start + j ≡ a * c + j = omega arith in
-      get_or-take n (drop start xs) j 0 (omega arith) ∙ get_or-drop start xs j 0 ∙ ap (λ (p : ℕ). get_or xs p 0) same
-
   other_row : (i j : ℕ) → i < rows → j < c → (i ≡ a → ⊥) → (i * c + j < start) ⊎ (start + n ≤ i * c + j)
   other_row i j li lj d =
       ⊎_elim (λ (b : i < a). inl (omega (arith, row_end a c i b)))
       (λ (b : a ≤ i). inr (omega (arith, row_end i c a (omega arith)))) (cases_lt i a)
 
-  pub row_put : (t : ℕ → ℕ) → ((j : ℕ) → j < n → get_or ys j 0 ≡ t (get_or (take n (drop start xs)) j 0))
-      → RowIs rows c (at c xs) (at c (put_mid start n xs ys)) a (λ j. t (at c xs a j))
+  pub row_put : (t : ℕ → ℕ) → ((j : ℕ) → j < c → get_or ys j 0 ≡ t j) → RowIs rows c (at c xs) (at c (put_mid start n xs ys)) a t
   row_put t e = record {
     here = λ j l.
         let same : a * c + j ≡ start + j = omega arith in
         let put : get_or (put_mid start n xs ys) (start + j) 0 ≡ get_or ys j 0 = search (rules, places, row_end rows c a la, length_part) in
-        ap (λ (p : ℕ). get_or (put_mid start n xs ys) p 0) same ∙ put ∙ e j (omega arith) ∙ ap t (part_here j l);
+        ap (λ (p : ℕ). get_or (put_mid start n xs ys) p 0) same ∙ put ∙ e j l;
     others = λ i j li lj d.
         let room : start + n ≤ length xs = omega (arith, row_end rows c a la) in
         ⊎_elim

@@ -1,7 +1,7 @@
 use Rattle.std.proofs.Common.{ℕ}
 use Rattle.reduction.specs.Blocks.{at}
 use Rattle.reduction.proofs.Places.{RowTo}
-use Rattle.reduction.proofs.rows.Matrix.add_row.Given as goal
+use Rattle.reduction.proofs.rows.Matrix.add_row_in_place.Given as goal
 
 abbrev pub invariant-loop-j : goal.invariant-loop-j
 invariant-loop-j g l =
