@@ -1,33 +1,30 @@
 -- Leading entries and free columns, as they are found.
-use Rattle.std.proofs.Common.{◌≡◌, ℕ, zero, suc, ◌+◌, ◌*◌, ◌<◌, ◌≤◌, Bool, true, false, cond, eqb, List, [], ◌∷◌, ◌++◌, filter, sum_by, length, Option, Some, None, MatchOption, sym, refl, ap, ◌∙◌, ⊎_elim, add-one, arith, length-append}
-use Rattle.std.proofs.lemmas.Bool.{cases_Bool, eq-eqb, ne_eqb, cond-true, cond-false, both_ways}
-use Rattle.std.specs.List.{range_with_len}
-use Rattle.std.specs.Option.{option_eq}
+use Rattle.std.proofs.Common.{◌≡◌, ℕ, zero, suc, ◌+◌, ◌*◌, ◌<◌, ◌≤◌, Bool, true, false, ◌&&◌, cond, eqb, List, [], ◌∷◌, ◌++◌, filter, sum_by, length, Option, Some, None, MatchOption, get_or, take, sym, refl, ap, ap₂, ◌∙◌, ⊎_elim, add-one, arith, length-append}
+use Rattle.std.proofs.Math.Bool.{and_comm}
+use Rattle.std.proofs.lemmas.Bool.{cases_Bool, lt-ltb, eq-eqb, ne_eqb, cond-true, cond-false}
+use Rattle.std.specs.List.{range_with_len, list_all}
 use Rattle.std.proofs.lemmas.List.{map-id}
+use Rattle.std.proofs.lemmas.List.Folds.{list_all_more}
 use Rattle.std.proofs.lemmas.List.FromFn.{filter_of_map_range_with_len_more, sum_by-map-range_with_len_more}
-use Rattle.algebra.specs.Matrices.{starts, lead_row, free, count}
+use Rattle.algebra.specs.Matrices.{zero_before, starts, lead_row, free, count}
 use Rattle.algebra.specs.Solutions.{offset}
-use Rattle.algebra.proofs.Leads.{starts_true, starts_from, lead_row_is, lead_row_none}
+use Rattle.algebra.proofs.Leads.{lead_row_is, lead_row_none}
 
-positive : (n : ℕ) → (n ≡ 0 → ⊥) → 0 < n
-positive n ne = omega arith
+-- the entries before column j, tested one by one
+zeros_tested : (row : ℕ → ℕ) (xs : List ℕ) (j : ℕ) → j ≤ length xs → ((k : ℕ) → k < j → get_or xs k 0 ≡ row k)
+    → list_all (λ x. eqb x 0) (take j xs) ≡ zero_before row j
+zeros_tested row xs zero l is = refl
+zeros_tested row xs (suc j) l is =
+    let zero_entry : ℕ → Bool = λ x. eqb x 0 in
+    ap (λ (k : ℕ). list_all zero_entry (take k xs)) (sym (add-one j)) ∙ list_all_more zero_entry xs j 0 (omega arith)
+    ∙ and_comm (list_all zero_entry (take j xs)) (zero_entry (get_or xs j 0))
+    ∙ ap₂ (λ (s t : Bool). s && t) (ap zero_entry (is j (omega arith))) (zeros_tested row xs j (omega arith) (λ k h. is k (omega arith)))
 
--- a row starts in column j if its first entry that is not 0 was found there
-pub start_found : (row u : ℕ → ℕ) (n j : ℕ) (r : Option ℕ) → j < n → ((k : ℕ) → k < n → u k ≡ row k)
-    → MatchOption r ((k : ℕ) → k < n → u k ≡ 0) (λ i. (i < n) × (u i ≡ 0 → ⊥) × ((k : ℕ) → k < i → u k ≡ 0))
-    → option_eq eqb r (Some j) ≡ starts row j
-start_found row u n j None l is h =
-    ⊎_elim (λ (t : starts row j ≡ true). absurd (omega (arith, (starts_true row j t).0, is j l, h j l))) (λ (e : starts row j ≡ false). sym e) (cases_Bool (starts row j))
-start_found row u n j (Some i) l is h =
-    ⊎_elim
-    (λ (t : starts row j ≡ true).
-    let s = starts_true row j t in
-    let e : i ≡ j = grind (arith, s.0, s.1 i, is i h.0, is j l, h.1, h.2 j) in
-    eq-eqb i j e ∙ sym t)
-    (λ (t : starts row j ≡ false).
-    ne_eqb i j (λ e. both_ways (starts row j) t
-    (starts_from row j (positive (row j) (λ z. h.1 (is i h.0 ∙ ap row e ∙ z))) (λ k g. sym (is k (omega arith)) ∙ h.2 k (omega arith)))) ∙ sym t)
-    (cases_Bool (starts row j))
+-- a row whose entry in column j is not 0 starts there if those before it are all 0
+pub start_tested : (row : ℕ → ℕ) (xs : List ℕ) (j : ℕ) → j ≤ length xs → ((k : ℕ) → k < j → get_or xs k 0 ≡ row k) → 0 < row j
+    → list_all (λ x. eqb x 0) (take j xs) ≡ starts row j
+start_tested row xs j l is p =
+    zeros_tested row xs j l is ∙ sym (ap (λ (t : Bool). t && zero_before row j) (lt-ltb 0 (row j) p))
 
 -- the row that was found to lead in a column, if there is one
 pub lead_found : (rows : ℕ) (m : ℕ → ℕ → ℕ) (j : ℕ) (r : Option ℕ)

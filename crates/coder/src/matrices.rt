@@ -87,7 +87,9 @@ impl<'a> Matrix<'a> {
         requires column { j < self.now.columns }
         ensures { result ≡ starts (row_major self.now.columns self.now.symbols.now i) j }
     {
-        self.row(i).iter().position(|x| *x != 0) == Some(j)
+        let row = self.row(i);
+        // The entry is tested first: most are 0 in sparse blocks, and then nothing else is read.
+        row[j] != 0 && row[..j].iter().all(|x| *x == 0)
     }
 
     // The first row that leads in column j; None where the column is free.
