@@ -1,6 +1,9 @@
-use Rattle.std.proofs.lemmas.Result.{MatchResult-weaker}
+use Rattle.std.proofs.Common.{arith}
+use Rattle.std.proofs.lemmas.Grind.{common_steps}
+use Rattle.std.proofs.lemmas.Bool.Decides.{nat_tests}
 use Rattle.editor.proofs.changes.Editor.rebuild.Goals as goal
 
 pub returns : goal.returns
 returns g c =
-    MatchResult-weaker c.build_forms.result (rw c.shape.ensures at c.build_forms.ensures) (λ _ h. (h.2, h.3)) (λ _ h. h.1)
+    let b = rw c.shape.ensures at c.build_forms.ensures in
+    grind (arith, common_steps, nat_tests, b)
