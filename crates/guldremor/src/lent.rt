@@ -1,5 +1,7 @@
 // A buffer of which a first part is lent to the library's calls, so long as the script wants it.
-ghost use Rattle.std.specs.Prelude.{◌≡◌, take, IfOk};
+ghost use Rattle.std.specs.Prelude.{◌≡◌, take, replicate, IfOk};
+ghost use Rattle.std.specs.Borrow.{sem};
+ghost use Rattle.guldremor.specs.Lending.{LendsFirst};
 
 use std::alloc::{AllocError, Global};
 
@@ -12,12 +14,12 @@ pub struct Lent<T> {
 impl<T: Copy + Drop> Lent<T> {
     // As many items as `places`, all alike, of which `length` are lent.
     pub fn new(heap: Global, item: T, places: usize, length: usize) -> Result<Self, AllocError>
-        ensures { IfOk result (λ b. b.length ≡ length) }
+        ensures length { IfOk result (λ b. b.length ≡ length) }
+        ensures items { IfOk result (λ b. b.items.items ≡ replicate places item) }
     {
-        Ok(Lent {
-            items: vec![in heap; item; places]?,
-            length,
-        })
+        let mut items = Vec::new(heap);
+        items.resize(places, item)?;
+        Ok(Lent { items, length })
     }
 
     // Lends so many items from now on.
@@ -42,10 +44,12 @@ impl<T: Copy + Drop> Lent<T> {
         &self.items.as_slice()[..n]
     }
 
+    // The same, to write: what is left there is what the first items are afterwards, and all else stays.
     pub fn first_mut(&mut self) -> &mut [T]
-        ensures { result.now ≡ take self.old.length self.old.items.items }
+        ensures* writes_back { sem 𝓛 (LendsFirst T.row self.entry result) }
+        ensures value { result.now ≡ take self.old.length self.old.items.items }
     {
         let n = self.length.min(self.items.len());
-        &mut self.items.as_mut_slice()[..n]
+        self.items.slice_mut(..n)
     }
 }
