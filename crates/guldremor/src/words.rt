@@ -7,7 +7,8 @@ use super::answer::Trouble;
 use array::Term;
 use std::str::SplitWhitespace;
 
-// A number in decimal digits, read up to the first byte that is none; one past 64 bits counts as the largest that fits, which is past every limit of ours.
+// A number in decimal digits; none where there are no bytes, or one that is no digit. A number past 64 bits counts as the largest
+// that fits, which is past every limit of ours.
 fn number_of(word: &str) -> Option<u64>
     ensures { MatchOption result
         (numeral word.now ≡ false)
