@@ -18,7 +18,9 @@ use field::{Field, Symbol, are_symbols};
 use refusal::Refusal;
 
 // Refuses with Length, Symbol, then Room.
+// Not inlined: where the order is seen to be a power of two, each symbol is shifted and not compared, at 7 instructions for 5.
 #[tactic(auto, using(field::proofs::SymbolTests::symbols_at, field::proofs::SymbolTests::symbols_fail))]
+#[inline(never)]
 fn judge(
     order: u16,
     forms: &Forms,

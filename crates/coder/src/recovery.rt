@@ -160,6 +160,8 @@ fn read_message<F: Field>(f: &F, forms: &Forms, table: &Matrix, out: &mut [Symbo
 }
 
 // Refuses with Buffer, Length, Symbol, then Room.
+// Not inlined: where the order is seen to be a power of two, each symbol is shifted and not compared, at 7 instructions for 5.
+#[inline(never)]
 fn judge(
     order: u16,
     forms: &Forms,
