@@ -28,7 +28,6 @@ impl Binary for AnyField {
         }
     }
 
-    #[inline(always)]
     fn multiply(&self, a: Symbol, b: Symbol) -> Symbol {
         match self {
             AnyField::Shift(f) => f.multiply(a, b),

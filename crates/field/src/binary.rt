@@ -55,8 +55,6 @@ impl<B: Binary> Field for B {
         operand(a, self.order()) ^ operand(b, self.order())
     }
 
-    // Inlined, so that a loop of the caller asks once which field it is, where nothing that it writes could change that.
-    #[inline(always)]
     fn product(&self, a: Symbol, b: Symbol) -> Symbol {
         self.multiply(operand(a, self.order()), operand(b, self.order()))
     }
