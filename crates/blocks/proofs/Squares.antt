@@ -32,3 +32,12 @@ module _ (f : Meaning) (w : Lawful f) (a k i p r : ℕ) (h : 0 < i) (ep : p ≡ 
     where
       odd : (n m : ℕ) → n / 2 ≡ m → n % 2 ≡ 1 → suc (m + m) ≡ n
       odd n m e o = omega arith
+
+-- before the first bit of k that is 1
+pub no_bits : (f : Meaning) (a k i p : ℕ) → 0 < i → p ≡ power f a (k / 2 ^ i) → k / 2 ^ (i - 1) ≡ 0 → p ≡ power f a (k / 2 ^ (i - 1))
+no_bits f a k i p h ep z =
+    let e : k / 2 ^ i ≡ k / 2 ^ (i - 1) = none (k / 2 ^ (i - 1)) (k / 2 ^ i) (bit_more k i h) z in
+    ep ∙ ap (power f a) e
+  where
+    none : (n m : ℕ) → n / 2 ≡ m → n ≡ 0 → m ≡ n
+    none n m e z = omega arith

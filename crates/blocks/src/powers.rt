@@ -13,9 +13,12 @@ pub(crate) fn power_of<F: Field>(f: &F, a: Symbol, k: usize) -> Symbol
 {
     let mut p = 1;
     for i in (0..9u32).rev() {
-        p = f.product(p, p);
-        if (k >> i) & 1 == 1 {
-            p = f.product(a, p);
+        // Before the first bit that is 1 the power is 1, and so is its square.
+        if k >> i != 0 {
+            p = f.product(p, p);
+            if (k >> i) & 1 == 1 {
+                p = f.product(a, p);
+            }
         }
     }
     p
