@@ -51,17 +51,14 @@ module _ (f : Meaning) (places e k n : ℕ) (v : ℕ → ℕ) (before after : Li
     past = λ i l. kept i (λ s. omega (arith, mul-add-lt n places k e hn hk)) ∙ a.past i l;
   }
 
--- the sums that the frequencies below n get at place k of their blocks, in a list of their own
-abbrev pub SumsTo : Meaning → ℕ → ℕ → (ℕ → ℕ) → List ℕ → List ℕ → ℕ → Type 0
-SumsTo f places k v before own n = (t : ℕ) → t < n → get_or own t 0 ≡ f.sum (get_or before (t * places + k) 0) (v t)
+-- the values at the frequencies below n, in a list of their own
+abbrev pub ListedTo : (ℕ → ℕ) → List ℕ → ℕ → Type 0
+ListedTo v own n = (t : ℕ) → t < n → get_or own t 0 ≡ v t
 
-pub sums_more : (f : Meaning) (places k n : ℕ) (v : ℕ → ℕ) (before own : List ℕ) (p x : ℕ) → n < length own
-    → x ≡ f.sum (get_or before (n * places + k) 0) p → p ≡ v n → SumsTo f places k v before own n → SumsTo f places k v before (set own n x) (n + 1)
-sums_more f places k n v before own p x room px pv a = λ t l.
+pub listed_more : (v : ℕ → ℕ) (own : List ℕ) (n x : ℕ) → n < length own → x ≡ v n → ListedTo v own n → ListedTo v (set own n x) (n + 1)
+listed_more v own n x room e a = λ t l.
     ⊎_elim
-    (λ (s : t ≡ n).
-    subst (λ (t : ℕ). get_or (set own n x) t 0 ≡ f.sum (get_or before (t * places + k) 0) (v t)) (sym s)
-    (get_or-set_same own n x 0 room ∙ px ∙ ap (f.sum (get_or before (n * places + k) 0)) pv))
+    (λ (s : t ≡ n). subst (λ (t : ℕ). get_or (set own n x) t 0 ≡ v t) (sym s) (get_or-set_same own n x 0 room ∙ e))
     (λ (ne : t ≡ n → ⊥). get_or-set_other own n t x 0 ne ∙ a t (omega arith)) (cases_eq t n)
 
 pub added_like : (f : Meaning) (places e k : ℕ) (v u : ℕ → ℕ) (before after : List ℕ) → ((t : ℕ) → v t ≡ u t)

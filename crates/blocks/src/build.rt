@@ -52,7 +52,7 @@ pub(crate) struct BlockBuffer<'a> {
 impl BlockBuffer<'_> {
     ghost use Rattle.blocks.specs.Buffers.{IsSameBuffer};
 
-    // Adds one term to place `k` of every block. The sums are worked out in `own`, which overlaps neither the buffer nor the field
+    // Adds one term to place `k` of every block. The products are worked out in `own`, which overlaps neither the buffer nor the field
     // where it is an array of the caller's: so the compiler asks once which field it is, and works out the multiples of the step once.
     #[inline(always)]
     fn add_term<F: Field>(&mut self, f: &F, alpha: Symbol, k: usize, term: Term, own: &mut [Symbol])
@@ -70,13 +70,14 @@ impl BlockBuffer<'_> {
         let symbols = &mut *self.symbols;
         let step = power_of(f, alpha, term.shift as usize % shape.size());
         let mut p = f.product(term.coefficient, 1);
-        for (t, sum) in own.iter_mut().enumerate() {
-            *sum = f.sum(symbols[entry_place(&shape, t, k)], p);
+        for x in own.iter_mut() {
+            *x = p;
             p = f.product(p, step);
         }
         // By index: a loop over the blocks, as parts of the buffer that are written, gets no proof.
-        for (t, sum) in own.iter().enumerate() {
-            symbols[entry_place(&shape, t, k)] = *sum;
+        for (t, x) in own.iter().enumerate() {
+            let at = entry_place(&shape, t, k);
+            symbols[at] = f.sum(symbols[at], *x);
         }
     }
 
