@@ -1,10 +1,10 @@
 -- Place k of every block, changed frequency by frequency.
-use Rattle.std.proofs.Common.{◌≡◌, ℕ, ◌+◌, ◌*◌, ◌/◌, ◌%◌, ◌<◌, ◌≤◌, List, length, get_or, set, sym, ap, refl, ◌∙◌, subst, ap₂, ⊎_elim, add-one, arith}
+use Rattle.std.proofs.Common.{◌≡◌, ℕ, ◌+◌, ◌*◌, ◌/◌, ◌%◌, ◌<◌, ◌≤◌, List, length, get_or, set, sym, ap, ◌∙◌, subst, ap₂, ⊎_elim, add-one, arith}
 use Rattle.std.proofs.lemmas.Nat.{mul-add-lt, div-mul-add, mod-mul-add}
 use Rattle.std.proofs.lemmas.List.{get_or-set_same, get_or-set_other}
 use Rattle.std.proofs.lemmas.Bool.{cases_eq}
 use Rattle.field.specs.Meaning.{Meaning, Lawful, power}
-use Rattle.algebra.proofs.Powers.{power_below, power_mul, product_one_right}
+use Rattle.algebra.proofs.Powers.{power_below, power_mul}
 use Rattle.field.specs.Sums.{total}
 use Rattle.algebra.specs.Transforms.{root}
 use Rattle.algebra.proofs.Sums.{total_below}
@@ -20,9 +20,6 @@ pub record AddedTo (f : Meaning) (places e k : ℕ) (v : ℕ → ℕ) (before af
   pub rest : (t : ℕ) → n ≤ t → get_or after (t * places + k) 0 ≡ get_or before (t * places + k) 0
   pub others : (i : ℕ) → (i % places ≡ k → ⊥) → get_or after i 0 ≡ get_or before i 0
   pub past : (i : ℕ) → places * e ≤ i → get_or after i 0 ≡ get_or before i 0
-
-pub added_none : (f : Meaning) (places e k : ℕ) (v : ℕ → ℕ) (before : List ℕ) → AddedTo f places e k v before before 0
-added_none f places e k v before = record { done = λ t l. absurd (omega arith); rest = λ t l. refl; others = λ i ne. refl; past = λ i l. refl }
 
 pub added_all : (f : Meaning) (places e k : ℕ) (v : ℕ → ℕ) (before after : List ℕ) (n : ℕ) → e ≤ n
     → AddedTo f places e k v before after n → AddedAt f places e k v before after
@@ -51,16 +48,6 @@ module _ (f : Meaning) (places e k n : ℕ) (v : ℕ → ℕ) (before after : Li
     past = λ i l. kept i (λ s. omega (arith, mul-add-lt n places k e hn hk)) ∙ a.past i l;
   }
 
--- the values at the frequencies below n, in a list of their own
-abbrev pub ListedTo : (ℕ → ℕ) → List ℕ → ℕ → Type 0
-ListedTo v own n = (t : ℕ) → t < n → get_or own t 0 ≡ v t
-
-pub listed_more : (v : ℕ → ℕ) (own : List ℕ) (n x : ℕ) → n < length own → x ≡ v n → ListedTo v own n → ListedTo v (set own n x) (n + 1)
-listed_more v own n x room e a = λ t l.
-    ⊎_elim
-    (λ (s : t ≡ n). subst (λ (t : ℕ). get_or (set own n x) t 0 ≡ v t) (sym s) (get_or-set_same own n x 0 room ∙ e))
-    (λ (ne : t ≡ n → ⊥). get_or-set_other own n t x 0 ne ∙ a t (omega arith)) (cases_eq t n)
-
 pub added_like : (f : Meaning) (places e k : ℕ) (v u : ℕ → ℕ) (before after : List ℕ) → ((t : ℕ) → v t ≡ u t)
     → AddedAt f places e k v before after → AddedAt f places e k u before after
 added_like f places e k v u before after h a = record {
@@ -71,9 +58,6 @@ added_like f places e k v u before after h a = record {
 
 -- a term at frequency t, by steps of one power
 module _ (f : Meaning) (w : Lawful f) (c p step : ℕ) (ep : p ≡ f.product c 1) where
-  pub term_first : p ≡ f.product p (power f step 0)
-  term_first = sym (product_one_right f w p (subst (λ (x : ℕ). x < f.q) (sym ep) (w.product_below c 1)))
-
   pub term_next : (r x t : ℕ) → r ≡ f.product p (power f step t) → x ≡ f.product r step → x ≡ f.product p (power f step (t + 1))
   term_next r x t er ex =
       ex ∙ ap (λ (y : ℕ). f.product y step) er ∙ w.product_assoc p (power f step t) step

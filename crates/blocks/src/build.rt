@@ -52,13 +52,10 @@ pub(crate) struct BlockBuffer<'a> {
 impl BlockBuffer<'_> {
     ghost use Rattle.blocks.specs.Buffers.{IsSameBuffer};
 
-    // Adds one term to place `k` of every block. The products are worked out in `own`, which overlaps neither the buffer nor the field
-    // where it is an array of the caller's: so the compiler asks once which field it is, and works out the multiples of the step once.
-    #[inline(always)]
-    fn add_term<F: Field>(&mut self, f: &F, alpha: Symbol, k: usize, term: Term, own: &mut [Symbol])
+    // Adds one term to place `k` of every block.
+    fn add_term<F: Field>(&mut self, f: &F, alpha: Symbol, k: usize, term: Term)
         requires root { alpha ≡ root_of (F.Field.meaning f.now) self.old.shape.size }
         requires place { k < self.old.shape.rows * self.old.shape.columns }
-        requires sized { length own.old ≡ self.old.shape.size }
         ensures same { IsSameBuffer self.old self.new }
         ensures added { let m = F.Field.meaning f.now in
             let s = self.old.shape in
@@ -70,30 +67,18 @@ impl BlockBuffer<'_> {
         let symbols = &mut *self.symbols;
         let step = power_of(f, alpha, term.shift as usize % shape.size());
         let mut p = f.product(term.coefficient, 1);
-        for x in own.iter_mut() {
-            *x = p;
-            p = f.product(p, step);
-        }
         // By index: a loop over the blocks, as parts of the buffer that are written, gets no proof.
-        for (t, x) in own.iter().enumerate() {
+        for t in 0..shape.size() {
             let at = entry_place(&shape, t, k);
-            symbols[at] = f.sum(symbols[at], *x);
+            symbols[at] = f.sum(symbols[at], p);
+            p = f.product(p, step);
         }
     }
 
     // Adds all terms of a cell to place `k` of every block.
-    #[inline(always)]
-    fn add_cell<F: Field>(
-        &mut self,
-        f: &F,
-        alpha: Symbol,
-        k: usize,
-        terms: &[Term],
-        own: &mut [Symbol],
-    )
+    fn add_cell<F: Field>(&mut self, f: &F, alpha: Symbol, k: usize, terms: &[Term])
         requires root { alpha ≡ root_of (F.Field.meaning f.now) self.old.shape.size }
         requires place { k < self.old.shape.rows * self.old.shape.columns }
-        requires sized { length own.old ≡ self.old.shape.size }
         requires symbols { let s = self.old.shape in
             ((t : ℕ) → t < s.size →
             slice_index self.old.symbols.now (t * (s.rows * s.columns) + k) < (F.Field.meaning f.now).q) }
@@ -104,7 +89,7 @@ impl BlockBuffer<'_> {
             self.old.symbols.now self.new.symbols.now }
     {
         for term in terms {
-            self.add_term(f, alpha, k, *term, own);
+            self.add_term(f, alpha, k, *term);
         }
     }
 
@@ -128,13 +113,10 @@ impl BlockBuffer<'_> {
             Built (F.Field.meaning f.now) (s.rows * s.columns) s.size cells.now self.old.symbols.now self.new.symbols.now }
     {
         let alpha = root(f, &self.shape);
-        // No heap is used: there are at most 511 blocks.
-        let mut space = [0; 511];
-        let own = &mut space[..self.shape.size()];
         self.clear();
         for (k, row) in cells[..places(&self.shape)].iter().enumerate() {
             let cell = Cell::from(*row);
-            self.add_cell(f, alpha, k, cell.terms(), own);
+            self.add_cell(f, alpha, k, cell.terms());
         }
     }
 }
